@@ -1,0 +1,5 @@
+//! Cases as tests: what the calls answer on small inputs and at the limits.
+#[cfg(test)]
+mod lists;
+#[cfg(test)]
+mod searches;

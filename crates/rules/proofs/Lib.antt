@@ -1,0 +1,2 @@
+pub mod NextFacts
+pub mod ListFacts

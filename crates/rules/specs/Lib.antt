@@ -1,0 +1,5 @@
+pub mod Rules
+pub mod Runs
+pub mod Next
+pub mod Refusals
+pub mod Lists
