@@ -1,0 +1,11 @@
+pub mod Classes
+pub mod Structure
+pub mod Steps
+pub mod Splits
+pub mod Refusals
+pub mod Tables
+pub mod Places
+pub mod Links
+pub mod Members
+pub mod Numbering
+pub mod Whole
