@@ -1,10 +1,13 @@
-//! Searches the example board for a run that breaks, and tells what it did and found.
+//! Settles the example board by whole states, and tells what it did and found.
 mod board;
 
 use board::Board;
+use check::settle::settle;
+use check::stage::Verdict;
 use rules::list::ListSource;
 use rules::list::TransitionList;
-use search::search::search;
+use sheets::whole::WholeSheet;
+use sheets::whole::WholeStates;
 use std::error::AnyError;
 
 /// Prints the first states of the path, one line each.
@@ -32,23 +35,24 @@ fn run(rt: &LibcRuntime) -> Result<(), AnyError> {
         Ok(list) => list,
         Err(_) => return Err("the board is no transition list".into()),
     };
-    println!(
-        rt,
-        "searching for a shortest run from a start to a breaking state"
-    )?;
+    println!(rt, "settling it by whole states")?;
+    let mut sheet = WholeSheet::new(&list);
     let mut path = [0; 18];
+    let mut marks = [0; 18];
     let mut scratch = [0; 36];
-    match search(&list, &mut path, &mut scratch) {
-        Ok(None) => {
-            println!(rt, "holds")?;
-            Ok(())
-        }
-        Ok(Some(length)) => {
-            println!(rt, "breaks {length}")?;
-            print_run(rt, &path, length)
-        }
-        Err(_) => Err("the areas are too short".into()),
-    }
+    let said = match settle(&list, &mut sheet, &mut path, &mut marks, &mut scratch) {
+        Ok(said) => said,
+        Err(_) => return Err("the check was refused".into()),
+    };
+    let verdict = match said.verdict {
+        Verdict::Holds => "holds",
+        Verdict::Breaks => "breaks",
+    };
+    let length = said.length;
+    let splits = said.splits;
+    let classes = said.last;
+    println!(rt, "{verdict} {length} splits {splits} classes {classes}")?;
+    print_run(rt, &path, length)
 }
 
 fn main(rt: LibcRuntime) -> Result<(), AnyError> {
