@@ -1,0 +1,5 @@
+pub mod VariableFacts
+pub mod EndFacts
+pub mod LevelFacts
+pub mod Complete
+pub mod Sound

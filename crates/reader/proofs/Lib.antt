@@ -1,0 +1,9 @@
+pub mod FaultFacts
+pub mod StartFacts
+pub mod DeclarationFacts
+pub mod EffectFacts
+pub mod SectionFacts
+pub mod CaseFacts
+pub mod Exactly
+pub mod TextFacts
+pub mod Specimens

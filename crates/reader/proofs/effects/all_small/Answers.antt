@@ -1,0 +1,16 @@
+use mathlib.Core.Path.{sym, _∙_}
+use Rattle.std.proofs.shelf.Lists.{at-drop-all}
+use Rattle.words.specs.Words.{each}
+use Rattle.words.proofs.WordFacts.{each-stop, each-more}
+use Rattle.reader.specs.BlockLines.{small-effect}
+use Rattle.reader.specs.declared.rule_set.Effect.the-variants.{Plain}
+use Rattle.reader.proofs.effects.all_small.Needs as need
+
+pub returns-then-not-is-small : need.returns-then-not-is-small
+returns-then-not-is-small c = sym (each-stop (small-effect (c .args .size)) _ _ (Plain 0) (c .loop-e-test .taken) (sym (c .if-not-is-small .ensures tt))) ∙ c .loop-e .inv
+
+pub loop-e-again : need.loop-e-again
+loop-e-again c = sym (each-more (small-effect (c .args .size)) _ _ (Plain 0) (c .loop-e-test .taken) (sym (c .if-not-is-small .ensures tt))) ∙ c .loop-e .inv
+
+pub returns : need.returns
+returns c = sym (at-drop-all (each (small-effect (c .args .size))) _ _ (c .loop-e-test .left)) ∙ c .loop-e .inv

@@ -1,0 +1,12 @@
+pub mod Faults
+pub mod RuleSets
+pub mod Sections
+pub mod VariableLines
+pub mod CaseWords
+pub mod BlockLines
+pub mod BreakLines
+pub mod WholeTexts
+pub mod Cases
+pub mod Says
+pub mod Meanings
+pub mod Answers

@@ -1,0 +1,3 @@
+pub mod PieceFacts
+pub mod WordFacts
+pub mod EndFacts
