@@ -1,0 +1,2 @@
+//! Rule sources whose states are made of the values of a few variables.
+pub mod source;

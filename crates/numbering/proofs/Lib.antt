@@ -1,0 +1,4 @@
+pub mod Products
+pub mod SizeFacts
+pub mod DigitLoops
+pub mod OwnSizes

@@ -1,0 +1,4 @@
+pub mod TextFacts
+pub mod NextFacts
+pub mod Formed
+mod Specimens

@@ -1,0 +1,4 @@
+pub mod Marks
+pub mod Lines
+pub mod Offering
+pub mod Gathers
