@@ -38,11 +38,7 @@ impl TraceFault {
                 layer: 4,
                 place: 0,
             },
-            TraceFault::Area(_) => Refusal {
-                number: 16,
-                layer: 4,
-                place: 0,
-            },
+            TraceFault::Area(fault) => fault.refusal(),
             TraceFault::NoSuspectRun => Refusal {
                 number: 17,
                 layer: 4,
