@@ -46,11 +46,13 @@ struct Areas {
     scratch: [u16; 8],
 }
 
-fn areas() -> Areas {
-    Areas {
-        path: [9; 4],
-        marks: [9; 4],
-        scratch: [9; 8],
+impl Areas {
+    fn new() -> Self {
+        Areas {
+            path: [9; 4],
+            marks: [9; 4],
+            scratch: [9; 8],
+        }
     }
 }
 
@@ -92,7 +94,7 @@ fn a_check_that_holds_after_one_split() -> Result<(), Fail> {
     let list = TransitionList::new(4, &FLAGS, &STEPS)?;
     let mut sheet = WholeSheet::new(&list);
     check_eq(sheet.count(), 2)?;
-    let mut lent = areas();
+    let mut lent = Areas::new();
     let spurious = spurious(&list, &sheet, &mut lent)?;
     check_eq(lent.path, [0, 1, 0, 0])?;
     check_eq(lent.marks, [1, 2, 0, 0]).note("0 is dead, 1 is bad")?;
@@ -162,7 +164,7 @@ fn areas_that_are_too_short_are_refused_and_kept() -> Result<(), Fail> {
     let list = TransitionList::new(4, &FLAGS, &STEPS)?;
     let mut sheet = WholeSheet::new(&list);
     let short = Err(CheckFault::Area(AreaFault::TooShort));
-    let mut lent = areas();
+    let mut lent = Areas::new();
     check_eq(
         settle(
             &list,
@@ -204,7 +206,7 @@ fn a_sheet_of_another_size_is_refused() -> Result<(), Fail> {
     let list = TransitionList::new(4, &FLAGS, &STEPS)?;
     let other = TransitionList::new(1, &[1], &[])?;
     let mut sheet = WholeSheet::new(&other);
-    let mut lent = areas();
+    let mut lent = Areas::new();
     let said = settle(
         &list,
         &mut sheet,
@@ -221,7 +223,7 @@ fn a_sheet_of_another_size_is_refused() -> Result<(), Fail> {
 fn a_tampered_path_is_refused_and_the_check_goes_on_after() -> Result<(), Fail> {
     let list = TransitionList::new(4, &FLAGS, &STEPS)?;
     let sheet = WholeSheet::new(&list);
-    let mut lent = areas();
+    let mut lent = Areas::new();
     let suspect = suspected(&list, &sheet, &mut lent)?;
     lent.path = [1, 0, 0, 0];
     let Err(back) = trace(
@@ -257,7 +259,7 @@ fn a_tampered_path_is_refused_and_the_check_goes_on_after() -> Result<(), Fail> 
 fn tampered_marks_are_refused_and_the_sheet_is_left() -> Result<(), Fail> {
     let list = TransitionList::new(4, &FLAGS, &STEPS)?;
     let mut sheet = WholeSheet::new(&list);
-    let mut lent = areas();
+    let mut lent = Areas::new();
     let spurious = spurious(&list, &sheet, &mut lent)?;
     lent.marks = [1, 2, 0, 2];
     let Err(back) = split(

@@ -5,3 +5,5 @@ mod checks;
 mod lists;
 #[cfg(test)]
 mod searches;
+#[cfg(test)]
+mod texts;

@@ -1,60 +1,59 @@
-//! Settles the example board by whole states, and tells what it did and found.
-mod board;
+//! Reads a rule text from standard input, settles it by whole states, and prints the verdict or the refusal.
+mod input;
+mod output;
 
-use board::Board;
+use check::fault::CheckFaultDebug;
 use check::settle::settle;
 use check::stage::Verdict;
-use rules::list::ListSource;
-use rules::list::TransitionList;
+use input::read_text;
+use output::print_refusal;
+use output::print_report;
+use output::print_state;
+use rules::source::RuleSource;
+use ruletext::source::TextSource;
+use ruletext::text::RuleText;
 use sheets::whole::WholeSheet;
 use sheets::whole::WholeStates;
 use std::error::AnyError;
 
-/// Prints the first states of the path, one line each.
-fn print_run(rt: &impl Print, path: &[u16], length: u16) -> Result<(), AnyError> {
-    for s in path.iter().take(length as usize) {
-        let board = Board::of(*s);
-        let day = board.day;
-        let kept = board.kept;
-        let full = board.full;
-        println!(rt, "day {day} kept {kept} full {full}")?;
+/// Settles the rules of a text, and prints the verdict and the run.
+fn settle_text(rt: &LibcRuntime, text: &RuleText) -> Result<(), AnyError> {
+    let heap = rt.alloc();
+    let n = text.size() as usize;
+    let mut path = vec![in heap; 0; n]?;
+    let mut marks = vec![in heap; 0; n]?;
+    let mut scratch = vec![in heap; 0; 2 * n]?;
+    let mut sheet = WholeSheet::new(text);
+    let said = match settle(text, &mut sheet, &mut path, &mut marks, &mut scratch) {
+        Ok(said) => said,
+        Err(_) => return Err("the check was refused".into()),
+    };
+    print_report(rt, said)?;
+    for s in path.iter().take(said.length as usize) {
+        print_state(rt, text, *s)?;
     }
     Ok(())
 }
 
-fn run(rt: &LibcRuntime) -> Result<(), AnyError> {
-    let flags = board::flags();
-    let steps = board::transitions(rt.alloc())?;
-    let count = steps.len();
-    let states = board::STATES;
-    println!(
-        rt,
-        "a board with a journey cache: {states} states, {count} transitions"
-    )?;
-    let list = match TransitionList::new(states as usize, &flags, &steps) {
-        Ok(list) => list,
-        Err(_) => return Err("the board is no transition list".into()),
-    };
-    println!(rt, "settling it by whole states")?;
-    let mut sheet = WholeSheet::new(&list);
-    let mut path = [0; 18];
-    let mut marks = [0; 18];
-    let mut scratch = [0; 36];
-    let said = match settle(&list, &mut sheet, &mut path, &mut marks, &mut scratch) {
-        Ok(said) => said,
-        Err(_) => return Err("the check was refused".into()),
-    };
-    let verdict = match said.verdict {
-        Verdict::Holds => "holds",
-        Verdict::Breaks => "breaks",
-    };
-    let length = said.length;
-    let splits = said.splits;
-    let classes = said.last;
-    println!(rt, "{verdict} {length} splits {splits} classes {classes}")?;
-    print_run(rt, &path, length)
+/// Whether the text was read, and then settled.
+fn run(rt: &LibcRuntime) -> Result<bool, AnyError> {
+    let bytes = read_text(rt)?;
+    match RuleText::read(rt.alloc(), &bytes) {
+        Ok(text) => {
+            settle_text(rt, &text)?;
+            Ok(true)
+        }
+        Err(fault) => {
+            print_refusal(rt, fault.refusal())?;
+            Ok(false)
+        }
+    }
 }
 
 fn main(rt: LibcRuntime) -> Result<(), AnyError> {
-    rt.report(run(&rt))
+    match run(&rt) {
+        Ok(true) => Ok(()),
+        Ok(false) => Err("refused".into()),
+        Err(error) => rt.report(Err(error)),
+    }
 }
