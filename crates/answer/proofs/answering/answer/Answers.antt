@@ -2,4 +2,4 @@ use Rattle.check.proofs.Agreement.{checks_agree}
 use Rattle.answer.proofs.answering.answer.Goals as goal
 
 pub returns : goal.returns
-returns c = record { answers = c.answer-text.ensures; agrees = checks_agree }
+returns c = record { answers = c.answer_text.ensures; agrees = checks_agree }

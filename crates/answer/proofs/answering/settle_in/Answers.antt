@@ -7,8 +7,8 @@ use Rattle.answer.specs.Printed.{printed}
 use Rattle.answer.proofs.Runs.{run_within}
 use Rattle.answer.proofs.answering.settle_in.Goals as goal
 
-pub slice-bounds-report-text-end : goal.slice-bounds-report-text-end
-slice-bounds-report-text-end g c =
+pub slice_bounds-report_text-end : goal.slice_bounds-report_text-end
+slice_bounds-report_text-end g c =
     let done = c.in-Ok.ensures.settles in
     run_within (text_rules (rule_set c.args.text.now)) (g.S.Sheet.classes c.args.sheet.now) (g.S.Sheet.classes c.settle.new.sheet) c.settle.new.path done.splits c.in-Ok.said done.right
 
@@ -17,7 +17,7 @@ returns g c =
     let r = rule_set c.args.text.now in
     let done = c.in-Ok.ensures.settles in
     let last = g.S.Sheet.classes c.settle.new.sheet in
-    IfOk-weaker c.report-text.result (λ bytes. vec_items bytes ≡ printed r c.in-Ok.said (take c.in-Ok.said.length c.settle.new.path) last) (λ bytes. SettledAs r (g.S.Sheet.classes c.args.sheet.now) (vec_items bytes))
+    IfOk-weaker c.report_text.result (λ bytes. vec_items bytes ≡ printed r c.in-Ok.said (take c.in-Ok.said.length c.settle.new.path) last) (λ bytes. SettledAs r (g.S.Sheet.classes c.args.sheet.now) (vec_items bytes))
     (λ bytes e. record {
       said = c.in-Ok.said;
       last = last;
@@ -32,4 +32,4 @@ returns g c =
       right = done.right;
       bytes_are = e;
     })
-    c.report-text.ensures
+    c.report_text.ensures

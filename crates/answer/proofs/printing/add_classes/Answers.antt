@@ -12,6 +12,6 @@ loop-k-preserved g c =
     let d = g.S.Sheet.classes c.args.sheet.now in
     let k = c.loop-k.k in
     let out = vec_items c.loop-k.out in
-    let put : vec_items c.extend-from-slice.new.self ≡ out ++ c.deref.result.now = pushed {xs = out} c.deref.result.now refl c.in-ok-extend-from-slice.was c.extend-from-slice.ensures.items in
-    behind out (vec_items c.extend-from-slice.new.self) (vec_items c.args.out.now) (class_lines r d k) (class_line r d k) (class_lines r d (k + 1)) c.loop-k.invariant
-    (put ∙ ap (λ l. out ++ l) (c.deref.ensures.value ∙ c.in-ok-line.ensures)) (class_lines_more r d k)
+    let put : vec_items c.extend_from_slice.new.self ≡ out ++ c.deref.result.now = pushed {xs = out} c.deref.result.now refl c.in_ok-extend_from_slice.was c.extend_from_slice.ensures.items in
+    behind out (vec_items c.extend_from_slice.new.self) (vec_items c.args.out.now) (class_lines r d k) (class_line r d k) (class_lines r d (k + 1)) c.loop-k.invariant
+    (put ∙ ap (λ l. out ++ l) (c.deref.ensures.value ∙ c.in_ok-line.ensures)) (class_lines_more r d k)

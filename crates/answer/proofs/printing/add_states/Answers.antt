@@ -13,9 +13,9 @@ loop-s-preserved c =
     let xs = c.args.run.now in
     let i = c.loop-s.s-index in
     let out = vec_items c.loop-s.out in
-    let put : vec_items c.extend-from-slice.new.self ≡ out ++ c.deref.result.now = pushed {xs = out} c.deref.result.now refl c.in-ok-extend-from-slice.was c.extend-from-slice.ensures.items in
-    behind out (vec_items c.extend-from-slice.new.self) (vec_items c.args.out.now) (state_lines r (take i xs)) (state_line r (get_or xs i 0)) (state_lines r (take (i + 1) xs)) c.loop-s.invariant
-    (put ∙ ap (λ l. out ++ l) (c.deref.ensures.value ∙ c.in-ok-line.ensures)) (state_lines_more r xs i c.loop-s-test.true)
+    let put : vec_items c.extend_from_slice.new.self ≡ out ++ c.deref.result.now = pushed {xs = out} c.deref.result.now refl c.in_ok-extend_from_slice.was c.extend_from_slice.ensures.items in
+    behind out (vec_items c.extend_from_slice.new.self) (vec_items c.args.out.now) (state_lines r (take i xs)) (state_line r (get_or xs i 0)) (state_lines r (take (i + 1) xs)) c.loop-s.invariant
+    (put ∙ ap (λ l. out ++ l) (c.deref.ensures.value ∙ c.in_ok-line.ensures)) (state_lines_more r xs i c.loop-s-test.true)
 
 pub returns : goal.returns
 returns c =

@@ -6,6 +6,6 @@ use Rattle.ruletext.specs.Wholes.{rule_set}
 
 pub returns : goal.returns
 returns c =
-    let room = c.in-ok-line.ensures in
-    whole_line (state_line (rule_set c.args.text.now) c.args.s) c.deref-mut.result.now c.state_line.new.area c.in-ok-line.line.items c.in-ok-line.line.len c.state_line.result c.state_line.ensures
-    (omega (arith, c.deref-mut.ensures.len, room.len, c.state-length.ensures)) c.state_line.auto.area (omega (arith, room.len, c.state-length.ensures))
+    let room = c.in_ok-line.ensures in
+    whole_line (state_line (rule_set c.args.text.now) c.args.s) c.deref-mut.result.now c.state_line.new.area c.in_ok-line.line.items c.in_ok-line.line.len c.state_line.result c.state_line.ensures
+    (omega (arith, c.deref-mut.ensures.len, room.len, c.state_length.ensures)) c.state_line.auto.area (omega (arith, room.len, c.state_length.ensures))

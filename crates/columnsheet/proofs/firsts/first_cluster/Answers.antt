@@ -7,7 +7,7 @@ use Rattle.columnsheet.specs.Firsts.{AtomOf}
 use Rattle.columnsheet.proofs.FirstLoops.{agreeing_none, agreeing_skip, agreeing_more, agreeing_all}
 use Rattle.columnsheet.proofs.GroupFacts.{grouped_small}
 use Rattle.columnsheet.proofs.firsts.first_cluster.Goals as goal
-use Rattle.columnsheet.proofs.firsts.first_cluster.Goals.{then-reads-cluster, else-reads-cluster}
+use Rattle.columnsheet.proofs.firsts.first_cluster.Goals.{then-reads_cluster, else-reads_cluster}
 
 pub loop-atom-init : goal.loop-atom-init
 loop-atom-init g c =
@@ -17,8 +17,8 @@ loop-atom-init g c =
     agreeing_none x c.args.k c.requires.cluster (g.C.RuleSource.rules c.args.source.now) (g.C.ColumnedSource.columns c.args.source.now) c.requires.columned c.requires.made xs (listed c.refine-count.result c.refine-count.new.classes)
     (omega (arith, c.fill.ensures.len, c.requires.all)) (λ t h. ap (λ l. get_or l t 0) blank ∙ get_or-replicate {A = ℕ} (length c.args.classes.now) t 0 0 (omega (arith, c.fill.ensures.len))) c.refine-count.ensures
 
-pub refine-count-requires-then-reads-cluster : goal.refine-count-requires-then-reads-cluster
-refine-count-requires-then-reads-cluster g c = record {
+pub refine-count-requires-then-reads_cluster : goal.refine-count-requires-then-reads_cluster
+refine-count-requires-then-reads_cluster g c = record {
   few = omega (arith, c.requires.few);
   long = omega (arith, c.requires.few, c.truths-bits.ensures.long);
   small = λ t h. grouped_small _ _ _ _ (listed c.loop-atom.count c.loop-atom.classes) (omega (arith, c.requires.few, c.requires.all)) c.loop-atom.invariant t (omega (arith, c.requires.all));
@@ -30,12 +30,12 @@ loop-atom-preserved g c =
     let r = g.C.RuleSource.rules c.args.source.now in
     let columns = g.C.ColumnedSource.columns c.args.source.now in
     let d = listed c.loop-atom.count c.loop-atom.classes in
-    elim c.if-reads-cluster.branch [
-      | then-reads-cluster w ↦
-          rw (w.classes-is, w.count-is) (agreeing_more x c.args.k c.requires.cluster r columns c.requires.columned c.requires.made c.loop-atom.atom d c.loop-atom.invariant w.truths-bits.result (listed w.refine-count-then-reads-cluster.result w.refine-count-then-reads-cluster.new.classes)
-          (omega (arith, c.requires.all)) (subst (λ q. AtomOf columns (partition q) c.args.k c.loop-atom.atom) c.clusters.ensures (w.if-reads-cluster.ensures.0 refl)) w.truths-bits.ensures.tells w.refine-count-then-reads-cluster.ensures)
-      | else-reads-cluster w ↦
-          rw (w.classes-is, w.count-is) (agreeing_skip x c.args.k c.requires.cluster r columns c.requires.columned c.requires.made c.loop-atom.atom d c.loop-atom.invariant (λ own. both_ways false refl (w.if-reads-cluster.ensures.1 (subst (λ q. AtomOf columns (partition q) c.args.k c.loop-atom.atom) (sym c.clusters.ensures) own))))
+    elim c.if-reads_cluster.branch [
+      | then-reads_cluster w ↦
+          rw (w.classes-is, w.count-is) (agreeing_more x c.args.k c.requires.cluster r columns c.requires.columned c.requires.made c.loop-atom.atom d c.loop-atom.invariant w.truths-bits.result (listed w.refine-count-then-reads_cluster.result w.refine-count-then-reads_cluster.new.classes)
+          (omega (arith, c.requires.all)) (subst (λ q. AtomOf columns (partition q) c.args.k c.loop-atom.atom) c.clusters.ensures (w.if-reads_cluster.ensures.0 refl)) w.truths-bits.ensures.tells w.refine-count-then-reads_cluster.ensures)
+      | else-reads_cluster w ↦
+          rw (w.classes-is, w.count-is) (agreeing_skip x c.args.k c.requires.cluster r columns c.requires.columned c.requires.made c.loop-atom.atom d c.loop-atom.invariant (λ own. both_ways false refl (w.if-reads_cluster.ensures.1 (subst (λ q. AtomOf columns (partition q) c.args.k c.loop-atom.atom) (sym c.clusters.ensures) own))))
     ]
 
 pub returns : goal.returns

@@ -2,13 +2,13 @@ use Rattle.std.proofs.Common.{◌+◌, get_or, ap, arith}
 use Rattle.columnsheet.proofs.JoinLoops.{start_is, place_in}
 use Rattle.columnsheet.proofs.joining.class_of.Goals as goal
 
-pub overflow-add-result : goal.overflow-add-result
-overflow-add-result c =
+pub overflow_add-result : goal.overflow_add-result
+overflow_add-result c =
     let x = c.args.tuples.now in
     omega (arith, start_is x c.args.k c.requires.cluster c.start.result c.start.ensures.tells, place_in x c.args.k c.requires.cluster c.args.t c.requires.tuple)
 
-pub offset-bounds-parts-start : goal.offset-bounds-parts-start
-offset-bounds-parts-start c =
+pub offset_bounds-parts-start : goal.offset_bounds-parts-start
+offset_bounds-parts-start c =
     let x = c.args.tuples.now in
     omega (arith, start_is x c.args.k c.requires.cluster c.start.result c.start.ensures.tells, place_in x c.args.k c.requires.cluster c.args.t c.requires.tuple)
 

@@ -7,8 +7,8 @@ use Rattle.columnsheet.proofs.JoinLoops.{product_more, product_small, product_al
 use Rattle.columnsheet.proofs.OwnTuples.{own_count}
 use Rattle.columnsheet.proofs.joining.count_classes.Goals as goal
 
-pub overflow-mul-all : goal.overflow-mul-all
-overflow-mul-all c =
+pub overflow_mul-all : goal.overflow_mul-all
+overflow_mul-all c =
     let x = c.args.tuples.now in
     let parts = c.args.parts.now in
     let counts = c.args.counts.now in

@@ -15,8 +15,8 @@ whole x k t rest r hk ht hr none low =
     let hs = met.1 in
     omega (arith, grid.mixed_below k rest met.0 hk hr hs, low.found met.0 hk hs met.2, none)
 
-pub overflow-add-s : goal.overflow-add-s
-overflow-add-s c =
+pub overflow_add-s : goal.overflow_add-s
+overflow_add-s c =
     omega (arith, own_most c.args.tuples.now, whole c.args.tuples.now c.args.k c.loop-t.t c.args.rest c.lowest.result c.requires.cluster (omega (arith, c.requires.all)) c.requires.state c.requires.without c.lowest.ensures)
 
 pub bounds-marks-s : goal.bounds-marks-s

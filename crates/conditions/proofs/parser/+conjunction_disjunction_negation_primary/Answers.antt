@@ -6,71 +6,71 @@ use Rattle.conditions.specs.Variables.{names_of}
 use Rattle.conditions.proofs.LevelFacts.{joined_left_fails, joined_left, joined_right_fails, joined_right, not_fails, not_reads, not_below, inner_fails, inner_open, inner_closed, base_always, base_compares, base_compare_fails}
 use Rattle.conditions.proofs.parser.+conjunction_disjunction_negation_primary.Goals as goal
 
-pub conjunction-returns-in-err-first : goal.conjunction-returns-in-err-first
-conjunction-returns-in-err-first t c =
+pub conjunction-returns-in_err-first : goal.conjunction-returns-in_err-first
+conjunction-returns-in_err-first t c =
     let p = err_from_is_err_and c.from-residual.result c.from-residual.ensures.1 in
-    rw (p.1, p.2) (joined_left_fails (names_of c.args.known.now) (codes "and") both and_level not_level refl (λ n ws. refl) _ _ _ c.in-err-first.ensures)
+    rw (p.1, p.2) (joined_left_fails (names_of c.args.known.now) (codes "and") both and_level not_level refl (λ n ws. refl) _ _ _ c.in_err-first.ensures)
 
 pub conjunction-returns-then-not-skip : goal.conjunction-returns-then-not-skip
 conjunction-returns-then-not-skip t c =
-    joined_left (names_of c.args.known.now) (codes "and") both and_level not_level refl (λ n ws. refl) _ _ _ _ c.in-ok-first.ensures (sym c.if-not-skip.ensures.answer) c.if-not-skip.ensures.rest c.if-not-skip.ensures.same
+    joined_left (names_of c.args.known.now) (codes "and") both and_level not_level refl (λ n ws. refl) _ _ _ _ c.in_ok-first.ensures (sym c.if-not-skip.ensures.answer) c.if-not-skip.ensures.rest c.if-not-skip.ensures.same
 
-pub conjunction-returns-in-err-second : goal.conjunction-returns-in-err-second
-conjunction-returns-in-err-second t c =
-    let p = err_from_is_err_and c.from-residual-in-err-second.result c.from-residual-in-err-second.ensures.1 in
-    rw (p.1, p.2) (joined_right_fails (names_of c.args.known.now) (codes "and") both and_level not_level refl (λ n ws. refl) _ _ _ _ c.in-ok-first.ensures _ (sym c.if-not-skip.ensures.answer) (record { rest = c.if-not-skip.ensures.rest; same = c.if-not-skip.ensures.same }) _ c.in-err-second.ensures)
+pub conjunction-returns-in_err-second : goal.conjunction-returns-in_err-second
+conjunction-returns-in_err-second t c =
+    let p = err_from_is_err_and c.from-residual-in_err-second.result c.from-residual-in_err-second.ensures.1 in
+    rw (p.1, p.2) (joined_right_fails (names_of c.args.known.now) (codes "and") both and_level not_level refl (λ n ws. refl) _ _ _ _ c.in_ok-first.ensures _ (sym c.if-not-skip.ensures.answer) (record { rest = c.if-not-skip.ensures.rest; same = c.if-not-skip.ensures.same }) _ c.in_err-second.ensures)
 
 pub conjunction-returns : goal.conjunction-returns
 conjunction-returns t c =
-    let first = c.in-ok-new.ensures.made in
-    let second = c.in-ok-new-2.ensures.made in
-    joined_right (names_of c.args.known.now) (codes "and") both and_level not_level refl (λ n ws. refl) _ _ _ _ c.in-ok-first.ensures _ (sym c.if-not-skip.ensures.answer) (record { rest = c.if-not-skip.ensures.rest; same = c.if-not-skip.ensures.same }) _ _ c.in-ok-second.ensures (λ i. both (tree (first i)) (tree (second i)))
+    let first = c.in_ok-new.ensures.made in
+    let second = c.in_ok-new-2.ensures.made in
+    joined_right (names_of c.args.known.now) (codes "and") both and_level not_level refl (λ n ws. refl) _ _ _ _ c.in_ok-first.ensures _ (sym c.if-not-skip.ensures.answer) (record { rest = c.if-not-skip.ensures.rest; same = c.if-not-skip.ensures.same }) _ _ c.in_ok-second.ensures (λ i. both (tree (first i)) (tree (second i)))
 
-pub disjunction-returns-in-err-first : goal.disjunction-returns-in-err-first
-disjunction-returns-in-err-first t c =
+pub disjunction-returns-in_err-first : goal.disjunction-returns-in_err-first
+disjunction-returns-in_err-first t c =
     let p = err_from_is_err_and c.from-residual.result c.from-residual.ensures.1 in
-    rw (p.1, p.2) (joined_left_fails (names_of c.args.known.now) (codes "or") either or_level and_level refl (λ n ws. refl) _ _ _ c.in-err-first.ensures)
+    rw (p.1, p.2) (joined_left_fails (names_of c.args.known.now) (codes "or") either or_level and_level refl (λ n ws. refl) _ _ _ c.in_err-first.ensures)
 
 pub disjunction-returns-then-not-skip : goal.disjunction-returns-then-not-skip
 disjunction-returns-then-not-skip t c =
-    joined_left (names_of c.args.known.now) (codes "or") either or_level and_level refl (λ n ws. refl) _ _ _ _ c.in-ok-first.ensures (sym c.if-not-skip.ensures.answer) c.if-not-skip.ensures.rest c.if-not-skip.ensures.same
+    joined_left (names_of c.args.known.now) (codes "or") either or_level and_level refl (λ n ws. refl) _ _ _ _ c.in_ok-first.ensures (sym c.if-not-skip.ensures.answer) c.if-not-skip.ensures.rest c.if-not-skip.ensures.same
 
-pub disjunction-returns-in-err-second : goal.disjunction-returns-in-err-second
-disjunction-returns-in-err-second t c =
-    let p = err_from_is_err_and c.from-residual-in-err-second.result c.from-residual-in-err-second.ensures.1 in
-    rw (p.1, p.2) (joined_right_fails (names_of c.args.known.now) (codes "or") either or_level and_level refl (λ n ws. refl) _ _ _ _ c.in-ok-first.ensures _ (sym c.if-not-skip.ensures.answer) (record { rest = c.if-not-skip.ensures.rest; same = c.if-not-skip.ensures.same }) _ c.in-err-second.ensures)
+pub disjunction-returns-in_err-second : goal.disjunction-returns-in_err-second
+disjunction-returns-in_err-second t c =
+    let p = err_from_is_err_and c.from-residual-in_err-second.result c.from-residual-in_err-second.ensures.1 in
+    rw (p.1, p.2) (joined_right_fails (names_of c.args.known.now) (codes "or") either or_level and_level refl (λ n ws. refl) _ _ _ _ c.in_ok-first.ensures _ (sym c.if-not-skip.ensures.answer) (record { rest = c.if-not-skip.ensures.rest; same = c.if-not-skip.ensures.same }) _ c.in_err-second.ensures)
 
 pub disjunction-returns : goal.disjunction-returns
 disjunction-returns t c =
-    let first = c.in-ok-new.ensures.made in
-    let second = c.in-ok-new-2.ensures.made in
-    joined_right (names_of c.args.known.now) (codes "or") either or_level and_level refl (λ n ws. refl) _ _ _ _ c.in-ok-first.ensures _ (sym c.if-not-skip.ensures.answer) (record { rest = c.if-not-skip.ensures.rest; same = c.if-not-skip.ensures.same }) _ _ c.in-ok-second.ensures (λ i. either (tree (first i)) (tree (second i)))
+    let first = c.in_ok-new.ensures.made in
+    let second = c.in_ok-new-2.ensures.made in
+    joined_right (names_of c.args.known.now) (codes "or") either or_level and_level refl (λ n ws. refl) _ _ _ _ c.in_ok-first.ensures _ (sym c.if-not-skip.ensures.answer) (record { rest = c.if-not-skip.ensures.rest; same = c.if-not-skip.ensures.same }) _ _ c.in_ok-second.ensures (λ i. either (tree (first i)) (tree (second i)))
 
-pub negation-returns-in-err-inner : goal.negation-returns-in-err-inner
-negation-returns-in-err-inner t c =
+pub negation-returns-in_err-inner : goal.negation-returns-in_err-inner
+negation-returns-in_err-inner t c =
     let p = err_from_is_err_and c.from-residual.result c.from-residual.ensures.1 in
-    rw (p.1, p.2) (not_fails _ _ _ _ (sym c.if-skip.ensures.answer) (record { rest = c.if-skip.ensures.rest; same = c.if-skip.ensures.same }) _ c.in-err-inner.ensures)
+    rw (p.1, p.2) (not_fails _ _ _ _ (sym c.if-skip.ensures.answer) (record { rest = c.if-skip.ensures.rest; same = c.if-skip.ensures.same }) _ c.in_err-inner.ensures)
 
 pub negation-returns-then-skip : goal.negation-returns-then-skip
 negation-returns-then-skip t c =
-    not_reads _ _ _ _ (sym c.if-skip.ensures.answer) (record { rest = c.if-skip.ensures.rest; same = c.if-skip.ensures.same }) _ _ c.in-ok-inner.ensures (ap (λ x. not (tree x)) c.in-ok-new.ensures.made)
+    not_reads _ _ _ _ (sym c.if-skip.ensures.answer) (record { rest = c.if-skip.ensures.rest; same = c.if-skip.ensures.same }) _ _ c.in_ok-inner.ensures (ap (λ x. not (tree x)) c.in_ok-new.ensures.made)
 
 pub negation-returns : goal.negation-returns
 negation-returns t c =
     not_below _ _ _ _ _ (sym c.if-skip.ensures.answer) c.if-skip.ensures.rest c.if-skip.ensures.same c.primary.ensures
 
-pub primary-returns-in-err-inner : goal.primary-returns-in-err-inner
-primary-returns-in-err-inner t c =
+pub primary-returns-in_err-inner : goal.primary-returns-in_err-inner
+primary-returns-in_err-inner t c =
     let p = err_from_is_err_and c.from-residual.result c.from-residual.ensures.1 in
-    rw (p.1, p.2) (inner_fails _ _ _ _ (sym c.if-skip.ensures.answer) (record { rest = c.if-skip.ensures.rest; same = c.if-skip.ensures.same }) _ c.in-err-inner.ensures)
+    rw (p.1, p.2) (inner_fails _ _ _ _ (sym c.if-skip.ensures.answer) (record { rest = c.if-skip.ensures.rest; same = c.if-skip.ensures.same }) _ c.in_err-inner.ensures)
 
 pub primary-returns-then-not-skip : goal.primary-returns-then-not-skip
 primary-returns-then-not-skip t c =
-    inner_open _ _ _ _ (sym c.if-skip.ensures.answer) (record { rest = c.if-skip.ensures.rest; same = c.if-skip.ensures.same }) _ c.in-ok-inner.ensures _ (sym c.if-not-skip.ensures.answer) c.if-not-skip.ensures.same
+    inner_open _ _ _ _ (sym c.if-skip.ensures.answer) (record { rest = c.if-skip.ensures.rest; same = c.if-skip.ensures.same }) _ c.in_ok-inner.ensures _ (sym c.if-not-skip.ensures.answer) c.if-not-skip.ensures.same
 
 pub primary-returns-then-skip : goal.primary-returns-then-skip
 primary-returns-then-skip t c =
-    inner_closed _ _ _ _ (sym c.if-skip.ensures.answer) (record { rest = c.if-skip.ensures.rest; same = c.if-skip.ensures.same }) _ c.in-ok-inner.ensures _ (sym c.if-not-skip.ensures.answer) (record { rest = c.if-not-skip.ensures.rest; same = c.if-not-skip.ensures.same })
+    inner_closed _ _ _ _ (sym c.if-skip.ensures.answer) (record { rest = c.if-skip.ensures.rest; same = c.if-skip.ensures.same }) _ c.in_ok-inner.ensures _ (sym c.if-not-skip.ensures.answer) (record { rest = c.if-not-skip.ensures.rest; same = c.if-not-skip.ensures.same })
 
 pub primary-returns-then-skip-2 : goal.primary-returns-then-skip-2
 primary-returns-then-skip-2 t c =
@@ -78,17 +78,17 @@ primary-returns-then-skip-2 t c =
     let second = c.if-skip-2.ensures in
     base_always _ _ _ (sym none.answer) _ refl (sym (rw none.rest at second.answer)) (record { rest = rw none.rest at second.rest; same = second.same ∙ none.same })
 
-pub primary-returns-in-err-comparison : goal.primary-returns-in-err-comparison
-primary-returns-in-err-comparison t c =
-    let p = err_from_is_err_and c.from-residual-in-err-comparison.result c.from-residual-in-err-comparison.ensures.1 in
+pub primary-returns-in_err-comparison : goal.primary-returns-in_err-comparison
+primary-returns-in_err-comparison t c =
+    let p = err_from_is_err_and c.from-residual-in_err-comparison.result c.from-residual-in_err-comparison.ensures.1 in
     let none = c.if-skip.ensures in
     let second = c.if-skip-2.ensures in
-    let says = rw (second.rest, none.rest, second.same, none.same) at c.in-err-comparison.ensures.says in
+    let says = rw (second.rest, none.rest, second.same, none.same) at c.in_err-comparison.ensures.says in
     rw (p.1, p.2) (base_compare_fails _ _ _ (sym none.answer) (sym (rw none.rest at second.answer)) (c.comparison.ensures.same ∙ second.same ∙ none.same) _ says)
 
 pub primary-returns : goal.primary-returns
 primary-returns t c =
     let none = c.if-skip.ensures in
     let second = c.if-skip-2.ensures in
-    let says = rw (second.rest, none.rest) at c.in-ok-comparison.ensures.says in
+    let says = rw (second.rest, none.rest) at c.in_ok-comparison.ensures.says in
     base_compares _ _ _ (sym none.answer) (sym (rw none.rest at second.answer)) (c.comparison.ensures.same ∙ second.same ∙ none.same) _ says

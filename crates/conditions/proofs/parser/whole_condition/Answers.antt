@@ -12,29 +12,29 @@ use Rattle.conditions.proofs.LevelFacts.{passes_on}
 use Rattle.conditions.proofs.Sound.{takes}
 use Rattle.conditions.proofs.parser.whole_condition.Goals as goal
 
-pub returns-in-err-cond : goal.returns-in-err-cond
-returns-in-err-cond c =
+pub returns-in_err-cond : goal.returns-in_err-cond
+returns-in_err-cond c =
     let p = err_from_is_err_and c.from-residual.result c.from-residual.ensures.1 in
     let ns = names_of c.args.known.now in
     let ws = left c.args.line.now in
-    let fault = c.in-err-cond.field-0.0 in
-    let h = passes_on fault (condition ns ws) (alone (condition ns ws)) c.args.line.now.number (λ none. ap alone none) (c.in-err-cond.ensures.says (depth or_level ws) (omega arith)) in
+    let fault = c.in_err-cond.field-0.0 in
+    let h = passes_on fault (condition ns ws) (alone (condition ns ws)) c.args.line.now.number (λ none. ap alone none) (c.in_err-cond.ensures.says (depth or_level ws) (omega arith)) in
     rw (p.1, p.2) (record { takes = takes ns ws _ (Err fault) h; formed = h })
 
-pub returns-then-is-some : goal.returns-then-is-some
-returns-then-is-some c =
+pub returns-then-is_some : goal.returns-then-is_some
+returns-then-is_some c =
     let ns = names_of c.args.known.now in
     let ws = left c.args.line.now in
     let n = c.args.line.now.number in
-    let read = c.in-ok-cond.ensures.says (depth or_level ws) (omega arith) in
-    let none : alone (condition ns ws) ≡ None = ap alone read ∙ ended_some (tree c.in-ok-cond.cond) c.disjunction.new.line c.next-token.result _ c.next-token.ensures.handed c.if-is-some.ensures in
+    let read = c.in_ok-cond.ensures.says (depth or_level ws) (omega arith) in
+    let none : alone (condition ns ws) ≡ None = ap alone read ∙ ended_some (tree c.in_ok-cond.cond) c.disjunction.new.line c.next_token.result _ c.next_token.ensures.handed c.if-is_some.ensures in
     record { takes = takes ns ws n (Err (Word (Form n))) (none, refl); formed = (none, refl) }
 
 pub returns : goal.returns
 returns c =
     let ns = names_of c.args.known.now in
     let ws = left c.args.line.now in
-    let cond = c.in-ok-cond.cond in
-    let read = c.in-ok-cond.ensures.says (depth or_level ws) (omega arith) in
-    let h = ap alone read ∙ ended_none (tree cond) c.disjunction.new.line c.next-token.result _ c.next-token.ensures.handed c.if-is-some.ensures in
+    let cond = c.in_ok-cond.cond in
+    let read = c.in_ok-cond.ensures.says (depth or_level ws) (omega arith) in
+    let h = ap alone read ∙ ended_none (tree cond) c.disjunction.new.line c.next_token.result _ c.next_token.ensures.handed c.if-is_some.ensures in
     record { takes = takes ns ws c.args.line.now.number (Ok cond) h; formed = h }

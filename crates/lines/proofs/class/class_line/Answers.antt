@@ -7,4 +7,4 @@ use Rattle.lines.proofs.class.class_line.Goals as goal
 pub returns : goal.returns
 returns g c =
     let line = class_line (rule_set c.args.text.now) (g.S.Sheet.classes c.args.sheet.now) c.args.class in
-    stands line c.args.area.now c.put-class.new.area c.put-class.result c.put-class.ensures.puts (omega arith)
+    stands line c.args.area.now c.put_class.new.area c.put_class.result c.put_class.ensures.puts (omega arith)

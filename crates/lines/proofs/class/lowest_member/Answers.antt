@@ -7,11 +7,11 @@ loop-s-init g c = passed_none (g.S.Sheet.classes c.args.sheet.now) c.args.class
 
 pub loop-s-preserved : goal.loop-s-preserved
 loop-s-preserved g c =
-    passed_more (g.S.Sheet.classes c.args.sheet.now) c.args.class c.loop-s.s (omega arith) (sym c.if-is-member.ensures) c.loop-s.invariant
+    passed_more (g.S.Sheet.classes c.args.sheet.now) c.args.class c.loop-s.s (omega arith) (sym c.if-is_member.ensures) c.loop-s.invariant
 
-pub returns-then-is-member : goal.returns-then-is-member
-returns-then-is-member g c =
-    passed_here (g.S.Sheet.classes c.args.sheet.now) c.args.class c.loop-s.s (omega arith) (sym c.if-is-member.ensures) c.loop-s.invariant
+pub returns-then-is_member : goal.returns-then-is_member
+returns-then-is_member g c =
+    passed_here (g.S.Sheet.classes c.args.sheet.now) c.args.class c.loop-s.s (omega arith) (sym c.if-is_member.ensures) c.loop-s.invariant
 
 pub returns : goal.returns
 returns g c =

@@ -9,6 +9,6 @@ returns g c =
     let text = c.args.text.now in
     let classes = g.S.Sheet.classes c.args.sheet.now in
     record {
-      puts = class_put (rule_set text) classes c.args.class c.member_count.result c.lowest_member.result (omega arith) c.member_count.ensures c.lowest_member.ensures c.put-item-first.ensures c.put-item-second.ensures c.put-values.ensures.puts c.put-values.ensures.some;
+      puts = class_put (rule_set text) classes c.args.class c.member_count.result c.lowest_member.result (omega arith) c.member_count.ensures c.lowest_member.ensures c.put_item-first.ensures c.put_item-second.ensures c.put_values.ensures.puts c.put_values.ensures.some;
       short = class_short (rule_set text) text.formed classes c.args.class (omega arith) (omega arith) (omega arith);
     }

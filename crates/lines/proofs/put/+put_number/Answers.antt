@@ -10,4 +10,4 @@ returns-then-n-lt10 t c =
 
 pub returns : goal.returns
 returns t c =
-    subst (λ ds. Puts ds c.args.area.now c.args.at c.put-2.result c.put-2.new.area) (sym (decimal_step c.args.n c.if-n-lt10.false (omega arith))) (puts_both c.put-number-front.ensures c.put-2.ensures)
+    subst (λ ds. Puts ds c.args.area.now c.args.at c.put-2.result c.put-2.new.area) (sym (decimal_step c.args.n c.if-n-lt10.false (omega arith))) (puts_both c.put_number-front.ensures c.put-2.ensures)

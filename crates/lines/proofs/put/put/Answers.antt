@@ -4,10 +4,10 @@ use Rattle.lines.proofs.put.put.Goals as goal
 
 pub returns-then-end-area : goal.returns-then-end-area
 returns-then-end-area c =
-    let end = c.saturating-add-end.result in
+    let end = c.saturating_add-end.result in
     let bytes = c.args.bytes.now in
     record {
-      measured = c.saturating-add-end.ensures;
+      measured = c.saturating_add-end.ensures;
       behind = λ h. omega arith;
-      written = λ h. put_mid-paste c.args.at (end - c.args.at) c.args.area.now c.copy-from-slice.new.self bytes (length bytes) c.copy-from-slice.ensures.after (omega arith) refl;
+      written = λ h. put_mid-paste c.args.at (end - c.args.at) c.args.area.now c.copy_from_slice.new.self bytes (length bytes) c.copy_from_slice.ensures.after (omega arith) refl;
     }

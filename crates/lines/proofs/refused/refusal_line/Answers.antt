@@ -5,4 +5,4 @@ use Rattle.lines.proofs.refused.refusal_line.Goals as goal
 
 pub returns : goal.returns
 returns c =
-    stands (refusal_line c.args.refusal) c.args.area.now c.put-refusal.new.area c.put-refusal.result c.put-refusal.ensures (omega arith)
+    stands (refusal_line c.args.refusal) c.args.area.now c.put_refusal.new.area c.put_refusal.result c.put_refusal.ensures (omega arith)

@@ -10,8 +10,8 @@ use Rattle.lines.proofs.state.put_values.Goals as goal
 pub loop-v-init : goal.loop-v-init
 loop-v-init c = putting_none (state_items (rule_set c.args.text.now) c.args.s) c.args.area.now c.args.start (omega arith)
 
-pub put-variable-at-requires : goal.put-variable-at-requires
-put-variable-at-requires c =
+pub put_variable-at-requires : goal.put_variable-at-requires
+put_variable-at-requires c =
     let r = rule_set c.args.text.now in
     omega (arith, c.loop-v-test.true, c.variables-count.ensures.tells, length-map r.variables size_of)
 
@@ -25,11 +25,11 @@ loop-v-preserved c =
     let value : c.value-value.result ≡ get_or (values_at r s) v 0 = c.value-value.ensures ∙ ap (λ vs. get_or vs v 0) c.values-values.ensures in
     let item = item_at r s v (omega (arith, c.loop-v-test.true, c.variables-count.ensures.tells)) in
     putting_more xs c.args.area.now c.args.start v c.loop-v.area c.loop-v.at c.loop-v.invariant
-    (get_or (names r.variables) v []) c.value-value.result c.mark_before.result c.put-variable-at.new.area c.put-variable-at.result
+    (get_or (names r.variables) v []) c.value-value.result c.mark_before.result c.put_variable-at.new.area c.put_variable-at.result
     (omega (arith, c.loop-v-test.true, all))
     (item ∙ (λ i. (get_or (names r.variables) v [], sym value i)))
     (c.mark_before.ensures ∙ ap (λ n. cond (ltb (v + 1) n) 32 10) all)
-    c.put-variable-at.ensures
+    c.put_variable-at.ensures
 
 pub returns : goal.returns
 returns c =

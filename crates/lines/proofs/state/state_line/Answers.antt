@@ -6,4 +6,4 @@ use Rattle.lines.proofs.state.state_line.Goals as goal
 
 pub returns : goal.returns
 returns c =
-    stands (state_line (rule_set c.args.text.now) c.args.s) c.args.area.now c.put-state.new.area c.put-state.result c.put-state.ensures (omega arith)
+    stands (state_line (rule_set c.args.text.now) c.args.s) c.args.area.now c.put_state.new.area c.put_state.result c.put_state.ensures (omega arith)

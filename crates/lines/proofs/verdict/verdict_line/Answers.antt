@@ -5,4 +5,4 @@ use Rattle.lines.proofs.verdict.verdict_line.Goals as goal
 
 pub returns : goal.returns
 returns c =
-    stands (verdict_line c.args.said) c.args.area.now c.put-verdict.new.area c.put-verdict.result c.put-verdict.ensures (omega arith)
+    stands (verdict_line c.args.said) c.args.area.now c.put_verdict.new.area c.put_verdict.result c.put_verdict.ensures (omega arith)

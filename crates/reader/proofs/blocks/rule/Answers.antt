@@ -11,19 +11,19 @@ use Rattle.reader.proofs.FaultFacts.{part_fails, condition_fails}
 use Rattle.reader.proofs.EffectFacts.{rule_fails}
 use Rattle.reader.proofs.blocks.rule.Goals as goal
 
-pub returns-in-err-cond : goal.returns-in-err-cond
-returns-in-err-cond c =
+pub returns-in_err-cond : goal.returns-in_err-cond
+returns-in_err-cond c =
     let p = err_from_is_err_and c.from-residual.result c.from-residual.ensures.1 in
     let ns = names_of c.args.known.now in
     let ws = left c.args.line.now in
-    rw (p.1, p.2) (condition_fails c.in-err-cond.field-0.0 (condition ns ws) (rule ns ws) c.args.line.now.number (λ none. rw none) (c.in-err-cond.ensures.says (depth or_level ws) (omega arith)))
+    rw (p.1, p.2) (condition_fails c.in_err-cond.field-0.0 (condition ns ws) (rule ns ws) c.args.line.now.number (λ none. rw none) (c.in_err-cond.ensures.says (depth or_level ws) (omega arith)))
 
-pub returns-in-err-effects : goal.returns-in-err-effects
-returns-in-err-effects c =
-    let p = err_from_is_err_and c.from-residual-in-err-effects.result c.from-residual-in-err-effects.ensures.1 in
+pub returns-in_err-effects : goal.returns-in_err-effects
+returns-in_err-effects c =
+    let p = err_from_is_err_and c.from-residual-in_err-effects.result c.from-residual-in_err-effects.ensures.1 in
     let ns = names_of c.args.known.now in
     let ws = left c.args.line.now in
     let rest = left c.disjunction.new.line in
-    let is = c.in-ok-cond.ensures.says (depth or_level ws) (omega arith) in
+    let is = c.in_ok-cond.ensures.says (depth or_level ws) (omega arith) in
     let skip = c.if-not-skip.ensures in
-    rw (p.1, p.2) (part_fails c.in-err-effects.field-0.0 (effects ns (length rest) [] (left c.skip.new.self)) (rule ns ws) c.skip.new.self.number c.args.line.now.number (skip.same ∙ c.in-ok-cond.ensures.same) (λ none. rule_fails ns ws (tree c.in-ok-cond.cond) rest is (sym skip.answer) (ap (effects ns (length rest) []) (sym skip.rest) ∙ none)) (c.in-err-effects.ensures (length rest) (omega (arith, ap length skip.rest, after_shorter rest))))
+    rw (p.1, p.2) (part_fails c.in_err-effects.field-0.0 (effects ns (length rest) [] (left c.skip.new.self)) (rule ns ws) c.skip.new.self.number c.args.line.now.number (skip.same ∙ c.in_ok-cond.ensures.same) (λ none. rule_fails ns ws (tree c.in_ok-cond.cond) rest is (sym skip.answer) (ap (effects ns (length rest) []) (sym skip.rest) ∙ none)) (c.in_err-effects.ensures (length rest) (omega (arith, ap length skip.rest, after_shorter rest))))

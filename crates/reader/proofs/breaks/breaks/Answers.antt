@@ -9,16 +9,16 @@ use Rattle.reader.specs.BreakLines.{break_line, section_breaks}
 use Rattle.reader.proofs.SectionFacts.{comes_through, turn_fails, turn, section_is}
 use Rattle.reader.proofs.breaks.breaks.Goals as goal
 
-pub returns-in-err-cond : goal.returns-in-err-cond
-returns-in-err-cond c =
-    let p = err_from_is_err_and c.from-residual-in-err-cond.result c.from-residual-in-err-cond.ensures.1 in
+pub returns-in_err-cond : goal.returns-in_err-cond
+returns-in_err-cond c =
+    let p = err_from_is_err_and c.from-residual-in_err-cond.result c.from-residual-in_err-cond.ensures.1 in
     let vs = vars_of c.args.known.now in
     let n = c.args.reader.now.line in
     let ls = lines_of c.args.reader.now in
-    let ok : leb c.in-ok-count.count 8 ≡ true = le-leb _ _ c.if-count-gt-MOST-BREAKS.false in
-    rw (p.1, p.2) (comes_through c.in-err-cond.field-0.0 (break_line vs c.loop-i.reader.line (lines_of c.loop-i.reader)) (section_breaks vs n ls) (λ item at e. section_is (λ _. break_line vs) (codes "breaks") (λ k. leb k 8) n _ _ ls _ c.in-ok-count.ensures ok ∙ turn_fails (λ _. break_line vs) _ _ _ _ _ _ c.loop-i.invariant c.loop-i-test.true item at e) c.in-err-cond.ensures)
+    let ok : leb c.in_ok-count.count 8 ≡ true = le-leb _ _ c.if-count-gt-MOST_BREAKS.false in
+    rw (p.1, p.2) (comes_through c.in_err-cond.field-0.0 (break_line vs c.loop-i.reader.line (lines_of c.loop-i.reader)) (section_breaks vs n ls) (λ item at e. section_is (λ _. break_line vs) (codes "breaks") (λ k. leb k 8) n _ _ ls _ c.in_ok-count.ensures ok ∙ turn_fails (λ _. break_line vs) _ _ _ _ _ _ c.loop-i.invariant c.loop-i-test.true item at e) c.in_err-cond.ensures)
 
 pub loop-i-preserved : goal.loop-i-preserved
 loop-i-preserved c =
-    let pushed = ap (map tree) c.in-ok-push.ensures.items ∙ map_push tree (vec_items c.loop-i.out) c.in-ok-cond.cond in
-    turn (λ _. break_line (vars_of c.args.known.now)) _ _ _ _ _ _ c.loop-i.invariant c.loop-i-test.true _ _ _ _ c.in-ok-cond.ensures pushed
+    let pushed = ap (map tree) c.in_ok-push.ensures.items ∙ map_push tree (vec_items c.loop-i.out) c.in_ok-cond.cond in
+    turn (λ _. break_line (vars_of c.args.known.now)) _ _ _ _ _ _ c.loop-i.invariant c.loop-i-test.true _ _ _ _ c.in_ok-cond.ensures pushed

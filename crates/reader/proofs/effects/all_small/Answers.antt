@@ -6,11 +6,11 @@ use Rattle.reader.specs.BlockLines.{small_effect}
 use Rattle.reader.specs.declared.rule_set.Effect.TheVariants.{Plain}
 use Rattle.reader.proofs.effects.all_small.Goals as goal
 
-pub returns-then-not-is-small : goal.returns-then-not-is-small
-returns-then-not-is-small c = sym (each_stop (small_effect c.args.size) _ _ (Plain 0) c.loop-e-test.true (sym c.if-not-is-small.ensures)) ∙ c.loop-e.invariant
+pub returns-then-not-is_small : goal.returns-then-not-is_small
+returns-then-not-is_small c = sym (each_stop (small_effect c.args.size) _ _ (Plain 0) c.loop-e-test.true (sym c.if-not-is_small.ensures)) ∙ c.loop-e.invariant
 
 pub loop-e-preserved : goal.loop-e-preserved
-loop-e-preserved c = sym (each_more (small_effect c.args.size) _ _ (Plain 0) c.loop-e-test.true (sym c.if-not-is-small.ensures)) ∙ c.loop-e.invariant
+loop-e-preserved c = sym (each_more (small_effect c.args.size) _ _ (Plain 0) c.loop-e-test.true (sym c.if-not-is_small.ensures)) ∙ c.loop-e.invariant
 
 pub returns : goal.returns
 returns c = sym (at_drop_all (each (small_effect c.args.size)) _ _ c.loop-e-test.false) ∙ c.loop-e.invariant

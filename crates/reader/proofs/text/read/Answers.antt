@@ -8,11 +8,11 @@ use Rattle.reader.specs.WholeTexts.{sections}
 use Rattle.reader.proofs.TextFacts.{answers, no_text}
 use Rattle.reader.proofs.text.read.Goals as goal
 
-pub returns-in-err-check-text : goal.returns-in-err-check-text
-returns-in-err-check-text c =
+pub returns-in_err-check_text : goal.returns-in_err-check_text
+returns-in_err-check_text c =
     let p = err_from_is_err_and c.from-residual.result c.from-residual.ensures.1 in
-    let none = c.in-err-check-text.ensures in
-    rw (p.1, p.2) (no_text c.args.text.now c.in-err-check-text.field-0.0 none.0 none.1)
+    let none = c.in_err-check_text.ensures in
+    rw (p.1, p.2) (no_text c.args.text.now c.in_err-check_text.field-0.0 none.0 none.1)
 
 pub returns : goal.returns
 returns c =
@@ -20,4 +20,4 @@ returns c =
     let reader = c.new-reader.result in
     let all : sections reader.line (lines_of reader) ≡ sections 0 (pieces 10 c.args.text.now) = λ i. sections (made.line i) (pieces 10 (made.rest i)) in
     let says = subst (λ p. Tells rule_set_of p c.sections.result c.sections.new.reader) all c.sections.ensures in
-    answers c.args.text.now c.sections.result c.sections.new.reader c.in-ok-check-text.ensures says
+    answers c.args.text.now c.sections.result c.sections.new.reader c.in_ok-check_text.ensures says

@@ -6,11 +6,11 @@ use Rattle.reader.proofs.DeclarationFacts.{declaration_none}
 use Rattle.reader.proofs.FaultFacts.{part_fails}
 use Rattle.reader.proofs.variables.declaration.Goals as goal
 
-pub returns-in-err-starts : goal.returns-in-err-starts
-returns-in-err-starts c =
+pub returns-in_err-starts : goal.returns-in_err-starts
+returns-in_err-starts c =
     let p = err_from_is_err_and c.from-residual.result c.from-residual.ensures.1 in
     let first = c.in-Some.ensures in
-    let second = c.in-Some-next-token.ensures in
-    let rest = left c.next-token-2.new.self in
+    let second = c.in-Some-next_token.ensures in
+    let rest = left c.next_token-2.new.self in
     let line = first.handed.0 ∙ ap (λ ws. c.in-Some.name.text.now ∷ ws) second.handed.0 in
-    rw (p.1, p.2) (part_fails c.in-err-starts.field-0.0 (numbers rest) (declaration (left c.args.line.now)) c.next-token-2.new.self.number c.args.line.now.number (second.same ∙ first.same) (λ none. ap declaration line ∙ declaration_none c.in-Some.name.text.now c.in-Some-next-token.second.text.now rest none) c.in-err-starts.ensures)
+    rw (p.1, p.2) (part_fails c.in_err-starts.field-0.0 (numbers rest) (declaration (left c.args.line.now)) c.next_token-2.new.self.number c.args.line.now.number (second.same ∙ first.same) (λ none. ap declaration line ∙ declaration_none c.in-Some.name.text.now c.in-Some-next_token.second.text.now rest none) c.in_err-starts.ensures)

@@ -9,7 +9,7 @@ loop-variable-preserved c =
     let xs = c.args.variables.now in
     let n = c.loop-variable.variable-index in
     let item = c.variable-item.result in
-    ap (map variable_of) c.in-ok-push.ensures.items ∙ map_push variable_of (vec_items c.loop-variable.out) c.in-ok-own.own ∙ (λ i. c.loop-variable.invariant i ++ c.in-ok-own.ensures i ∷ []) ∙ sym (map_more var_of xs n item c.loop-variable-test.true ∙ ap (λ y. map var_of (take n xs) ++ var_of y ∷ []) (sym c.variable-item.is))
+    ap (map variable_of) c.in_ok-push.ensures.items ∙ map_push variable_of (vec_items c.loop-variable.out) c.in_ok-own.own ∙ (λ i. c.loop-variable.invariant i ++ c.in_ok-own.ensures i ∷ []) ∙ sym (map_more var_of xs n item c.loop-variable-test.true ∙ ap (λ y. map var_of (take n xs) ++ var_of y ∷ []) (sym c.variable-item.is))
 
 pub returns : goal.returns
 returns c = c.loop-variable.invariant ∙ ap (map var_of) (take_all c.loop-variable.variable-index c.args.variables.now c.loop-variable-test.false)

@@ -10,7 +10,7 @@ loop-variable-preserved c =
     let n = c.loop-variable.variable-index in
     let item = c.variable-item.result in
     let next : map variable_of (take n xs) ++ variable_of item ∷ [] ≡ map variable_of (take (n + 1) xs) = sym (map_more variable_of xs n item c.loop-variable-test.true ∙ ap (λ y. map variable_of (take n xs) ++ variable_of y ∷ []) (sym c.variable-item.is)) in
-    c.in-ok-push.ensures.items ∙ ap (λ l. l ++ item.size ∷ []) c.loop-variable.invariant ∙ sym (map_push size_of (map variable_of (take n xs)) (variable_of item)) ∙ ap (map size_of) next
+    c.in_ok-push.ensures.items ∙ ap (λ l. l ++ item.size ∷ []) c.loop-variable.invariant ∙ sym (map_push size_of (map variable_of (take n xs)) (variable_of item)) ∙ ap (map size_of) next
 
 pub returns : goal.returns
 returns c =

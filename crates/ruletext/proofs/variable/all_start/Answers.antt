@@ -17,16 +17,16 @@ test_at xs vs v x ys y lt is items value =
     let at = starts_at xs v x lt is in
     λ i. among ((at ∙ sym items) i) (sym value i)
 
-pub returns-then-not-is-among : goal.returns-then-not-is-among
-returns-then-not-is-among c =
+pub returns-then-not-is_among : goal.returns-then-not-is_among
+returns-then-not-is_among c =
     let xs = c.args.variables.now in
     let test = test_at xs c.args.values.now c.loop-v.v c.index-variables-v.result c.deref.result.now c.value_at.result c.loop-v-test.true c.index-variables-v.is c.deref.ensures.value c.value_at.ensures in
-    sym (each_below_false (length (map variable_of xs)) (λ v. among (get_or (map starts_of (map variable_of xs)) v []) (get_or c.args.values.now v 0)) c.loop-v.v (omega (arith, length-map xs variable_of, c.loop-v-test.true)) (test ∙ sym c.if-not-is-among.ensures))
+    sym (each_below_false (length (map variable_of xs)) (λ v. among (get_or (map starts_of (map variable_of xs)) v []) (get_or c.args.values.now v 0)) c.loop-v.v (omega (arith, length-map xs variable_of, c.loop-v-test.true)) (test ∙ sym c.if-not-is_among.ensures))
 
 pub loop-v-preserved : goal.loop-v-preserved
 loop-v-preserved c =
     let test = test_at c.args.variables.now c.args.values.now c.loop-v.v c.index-variables-v.result c.deref.result.now c.value_at.result c.loop-v-test.true c.index-variables-v.is c.deref.ensures.value c.value_at.ensures in
-    below_more _ _ c.loop-v.invariant (test ∙ sym c.if-not-is-among.ensures)
+    below_more _ _ c.loop-v.invariant (test ∙ sym c.if-not-is_among.ensures)
 
 pub returns : goal.returns
 returns c =

@@ -10,8 +10,8 @@ loop-s-init c =
     let x = c.args.clusters.now in
     lowering_none (sizes_in x) (partition x).of x.count c.states-s.result (replicate 1024 0) (length-replicate {A = ℕ} 1024 0) c.states-s.ensures
 
-pub write-state-requires : goal.write-state-requires
-write-state-requires c =
+pub write_state-requires : goal.write_state-requires
+write_state-requires c =
     record {
       started = c.requires;
       state = omega (arith, c.loop-s.auto.s, c.loop-s-test.true, c.states-s.ensures);
@@ -23,7 +23,7 @@ loop-s-preserved c =
     let x = c.args.clusters.now in
     let s = c.loop-s.s - 1 in
     let up : c.loop-s.s ≡ s + 1 = omega (arith, c.loop-s-test.true) in
-    lowering_more (sizes_in x) (partition x).of x.count (own_shape x) s c.loop-s.lowest c.write-state.new.lowest (omega (arith, c.loop-s.auto.s, c.loop-s-test.true, c.states-s.ensures)) (subst (λ i. Lowering (sizes_in x) (partition x).of x.count i c.loop-s.lowest) up c.loop-s.invariant) c.write-state.ensures
+    lowering_more (sizes_in x) (partition x).of x.count (own_shape x) s c.loop-s.lowest c.write_state.new.lowest (omega (arith, c.loop-s.auto.s, c.loop-s-test.true, c.states-s.ensures)) (subst (λ i. Lowering (sizes_in x) (partition x).of x.count i c.loop-s.lowest) up c.loop-s.invariant) c.write_state.ensures
 
 pub returns : goal.returns
 returns c =

@@ -8,8 +8,8 @@ use Rattle.tuples.proofs.build.width_of.Goals.{then-cluster-k, else-cluster-k}
 pub loop-v-init : goal.loop-v-init
 loop-v-init c = multiplying_none (sizes_in c.args.clusters.now) (partition c.args.clusters.now).of c.args.k
 
-pub overflow-mul-w : goal.overflow-mul-w
-overflow-mul-w c =
+pub overflow_mul-w : goal.overflow_mul-w
+overflow_mul-w c =
     let x = c.args.clusters.now in
     let v = c.loop-v.v in
     let shape = own_shape x in

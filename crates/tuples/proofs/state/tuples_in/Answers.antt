@@ -20,17 +20,17 @@ small c =
     let x = c.args.clusters.now in
     turn_small (sizes_in x) (partition x).of x.count (own_shape x) c.args.s c.loop-v.tuples c.loop-v.v c.loop-v.w c.loop-v.rest c.size-size.result c.cluster-k.result (in_sizes c) c.size-size.ensures c.cluster-k.ensures c.loop-v.invariant c.requires
 
-pub nonzero-div-tuples : goal.nonzero-div-tuples
-nonzero-div-tuples c = positive c
+pub nonzero_div-tuples : goal.nonzero_div-tuples
+nonzero_div-tuples c = positive c
 
-pub nonzero-rem-rest : goal.nonzero-rem-rest
-nonzero-rem-rest c = positive c
+pub nonzero_rem-rest : goal.nonzero_rem-rest
+nonzero_rem-rest c = positive c
 
-pub overflow-mul-tuples : goal.overflow-mul-tuples
-overflow-mul-tuples c = omega (arith, small c)
+pub overflow_mul-tuples : goal.overflow_mul-tuples
+overflow_mul-tuples c = omega (arith, small c)
 
-pub overflow-add-tuples : goal.overflow-add-tuples
-overflow-add-tuples c = omega (arith, small c)
+pub overflow_add-tuples : goal.overflow_add-tuples
+overflow_add-tuples c = omega (arith, small c)
 
 pub loop-v-preserved : goal.loop-v-preserved
 loop-v-preserved c =

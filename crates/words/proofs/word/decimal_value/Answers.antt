@@ -15,8 +15,8 @@ loop-b-preserved c =
       omega (arith, pow, here, c.loop-b.invariant.2, c.from.ensures),
     )
 
-pub overflow-sub-b : goal.overflow-sub-b
-overflow-sub-b c = (range_here 48 57 _ _ c.loop-b-test.true c.loop-b.invariant.1).0
+pub overflow_sub-b : goal.overflow_sub-b
+overflow_sub-b c = (range_here 48 57 _ _ c.loop-b-test.true c.loop-b.invariant.1).0
 
 pub returns : goal.returns
 returns c = sym (at_drop_all (decimal c.loop-b.n) _ _ c.loop-b-test.false) ∙ c.loop-b.invariant.0

@@ -3,23 +3,23 @@ use Rattle.columns.specs.Columns.{product}
 use Rattle.clusters.proofs.Made.{own_labelled, sizes_copied, sizes_wide, made_clustered}
 use Rattle.clusters.proofs.cluster.Clusters.new.Goals as goal
 
-pub link-all-requires : goal.link-all-requires
-link-all-requires g c =
+pub link_all-requires : goal.link_all-requires
+link_all-requires g c =
     let told = c.variables-n.ensures in
     record {
       few = omega arith;
       labelled = own_labelled (g.C.ColumnedSource.columns c.args.source.now).reads;
     }
 
-pub invariant-of-result : goal.invariant-of-result
-invariant-of-result g c =
+pub invariant_of-result : goal.invariant_of-result
+invariant_of-result g c =
     let rules = g.C.RuleSource.rules c.args.source.now in
     let columns = g.C.ColumnedSource.columns c.args.source.now in
     let n = c.variables-n.result in
     let told = c.variables-n.ensures in
-    let sizes = c.copy-sizes.new.sizes in
-    let copied = sizes_copied rules columns told.columned n told.tells sizes c.copy-sizes.ensures in
-    let wide = sizes_wide rules columns told.columned n told.tells sizes c.copy-sizes.ensures in
+    let sizes = c.copy_sizes.new.sizes in
+    let copied = sizes_copied rules columns told.columned n told.tells sizes c.copy_sizes.ensures in
+    let wide = sizes_wide rules columns told.columned n told.tells sizes c.copy_sizes.ensures in
     let made = c.size.ensures.tells ∙ sym told.columned.states ∙ ap product (sym copied) in
     let anew = c.renumber-count.ensures in
     (omega arith, (omega arith, (omega arith, (omega arith, (wide, (anew.below, (anew.few, (made, (omega arith, tt)))))))))
@@ -33,10 +33,10 @@ returns g c =
     let room : n ≤ length c.renumber-count.new.labels = omega arith in
     record {
       made = record {
-        sizes_are = sizes_copied rules columns told.columned n told.tells c.copy-sizes.new.sizes c.copy-sizes.ensures;
+        sizes_are = sizes_copied rules columns told.columned n told.tells c.copy_sizes.new.sizes c.copy_sizes.ensures;
         clustered =
-            made_clustered rules columns told.columned n told.tells c.link-all.new.labels c.renumber-count.new.labels c.renumber-count.result
-            c.link-all.ensures.labelled c.link-all.ensures.one room c.renumber-count.ensures;
+            made_clustered rules columns told.columned n told.tells c.link_all.new.labels c.renumber-count.new.labels c.renumber-count.result
+            c.link_all.ensures.labelled c.link_all.ensures.one room c.renumber-count.ensures;
       };
       columned = told.columned;
     }

@@ -10,19 +10,19 @@ use Rattle.columnsheet.proofs.OwnTuples.{own_most, all_from_lawful}
 use Rattle.columnsheet.proofs.SheetFacts.{own_sound, sheet_states, sheet_table, sheet_split, sheet_into}
 use Rattle.columnsheet.proofs.column_states.ColumnSheetSheet.split.Goals as goal
 
-pub returns-then-not-is-splittable : goal.returns-then-not-is-splittable
-returns-then-not-is-splittable c =
+pub returns-then-not-is_splittable : goal.returns-then-not-is_splittable
+returns-then-not-is_splittable c =
     let x = c.args.self.now in
     let same : listed x.count (take c.states-n.result x.table) ≡ sheet_classes x = ap (λ n. listed x.count (take n x.table)) c.states-n.ensures ∙ sheet_table x in
     record {
-      gives = ((λ may. both_ways false refl (c.if-not-is-splittable.ensures.1 (subst (λ d. Splittable d c.args.class c.args.marks.now) (sym same) may))), refl, refl);
+      gives = ((λ may. both_ways false refl (c.if-not-is_splittable.ensures.1 (subst (λ d. Splittable d c.args.class c.args.marks.now) (sym same) may))), refl, refl);
       formed = tt;
     }
 
-pub split-all-self-requires : goal.split-all-self-requires
-split-all-self-requires c =
+pub split_all-self-requires : goal.split_all-self-requires
+split_all-self-requires c =
     let x = c.args.self.now in
-    let may = c.if-not-is-splittable.ensures.0 refl in
+    let may = c.if-not-is_splittable.ensures.0 refl in
     let same : listed x.count (take c.states-n.result x.table) ≡ sheet_classes x = ap (λ n. listed x.count (take n x.table)) c.states-n.ensures ∙ sheet_table x in
     record {
       sound = own_sound x;
@@ -30,17 +30,17 @@ split-all-self-requires c =
       room = omega (arith, x.full, own_most x.tuples);
     }
 
-pub invariant-of-self : goal.invariant-of-self
-invariant-of-self c =
+pub invariant_of-self : goal.invariant_of-self
+invariant_of-self c =
     let x = c.args.self.now in
-    let made = c.split-all-self.ensures in (
-      omega (arith, x.long, c.split-all-self.auto.parts),
+    let made = c.split_all-self.ensures in (
+      omega (arith, x.long, c.split_all-self.auto.parts),
       (
-        omega (arith, x.each, c.split-all-self.auto.counts),
+        omega (arith, x.each, c.split_all-self.auto.counts),
         (
-          omega (arith, x.full, c.split-all-self.auto.table),
+          omega (arith, x.full, c.split_all-self.auto.table),
           (
-            all_from_lawful (count_of x.tuples) (parts_of x.tuples c.split-all-self.new.parts c.split-all-self.new.counts) (λ k h. (made.split k h).lawful),
+            all_from_lawful (count_of x.tuples) (parts_of x.tuples c.split_all-self.new.parts c.split_all-self.new.counts) (λ k h. (made.split k h).lawful),
             (made.counted, (made.told, tt)),
           ),
         ),
@@ -52,8 +52,8 @@ returns c =
     let x = c.args.self.now in
     let marks = c.args.marks.now in
     let same : listed x.count (take c.states-n.result x.table) ≡ sheet_classes x = ap (λ n. listed x.count (take n x.table)) c.states-n.ensures ∙ sheet_table x in
-    let formed = sheet_split x marks c.split-all-self.new.parts c.split-all-self.new.counts c.split-all-self.ensures.split in
+    let formed = sheet_split x marks c.split_all-self.new.parts c.split_all-self.new.counts c.split_all-self.ensures.split in
     record {
-      gives = (subst (λ d. Splittable d c.args.class marks) same (c.if-not-is-splittable.ensures.0 refl), sheet_into x marks _ formed);
+      gives = (subst (λ d. Splittable d c.args.class marks) same (c.if-not-is_splittable.ensures.0 refl), sheet_into x marks _ formed);
       formed = formed;
     }

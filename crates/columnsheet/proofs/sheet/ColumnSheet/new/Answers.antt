@@ -8,34 +8,34 @@ use Rattle.columnsheet.specs.Kept.{parts_of}
 use Rattle.columnsheet.proofs.SheetFacts.{first_columns}
 use Rattle.columnsheet.proofs.sheet.ColumnSheet.new.Goals as goal
 
-pub first-parts-requires : goal.first-parts-requires
-first-parts-requires g c = record {
+pub first_parts-requires : goal.first_parts-requires
+first_parts-requires g c = record {
   columned = c.new.ensures.columned;
   made = subst (λ x. ClustersOf (g.C.ColumnedSource.columns c.args.source.now) x) (sym c.in-Some.ensures) c.new.ensures.made;
   long = refl;
   each = refl;
 }
 
-pub fill-table-requires : goal.fill-table-requires
-fill-table-requires g c = record {
-  sound = sound_from c.in-Some.tuples c.first-parts.new.parts c.first-parts.new.counts c.first-parts.auto.parts c.first-parts.auto.counts (λ k h. (c.first-parts.ensures k h).lawful);
+pub fill_table-requires : goal.fill_table-requires
+fill_table-requires g c = record {
+  sound = sound_from c.in-Some.tuples c.first_parts.new.parts c.first_parts.new.counts c.first_parts.auto.parts c.first_parts.auto.counts (λ k h. (c.first_parts.ensures k h).lawful);
   room = own_most c.in-Some.tuples;
 }
 
-pub count-classes-count-requires : goal.count-classes-count-requires
-count-classes-count-requires g c = sound_from c.in-Some.tuples c.first-parts.new.parts c.first-parts.new.counts c.first-parts.auto.parts c.first-parts.auto.counts (λ k h. (c.first-parts.ensures k h).lawful)
+pub count_classes-count-requires : goal.count_classes-count-requires
+count_classes-count-requires g c = sound_from c.in-Some.tuples c.first_parts.new.parts c.first_parts.new.counts c.first_parts.auto.parts c.first_parts.auto.counts (λ k h. (c.first_parts.ensures k h).lawful)
 
-pub invariant-of-result : goal.invariant-of-result
-invariant-of-result g c =
+pub invariant_of-result : goal.invariant_of-result
+invariant_of-result g c =
     let x = c.in-Some.tuples in (
-      c.first-parts.auto.parts,
+      c.first_parts.auto.parts,
       (
-        c.first-parts.auto.counts,
+        c.first_parts.auto.counts,
         (
-          c.fill-table.auto.table,
+          c.fill_table.auto.table,
           (
-            all_from_lawful (count_of x) (parts_of x c.first-parts.new.parts c.first-parts.new.counts) (λ k h. (c.first-parts.ensures k h).lawful),
-            (c.count-classes-count.ensures, (c.fill-table.ensures, tt)),
+            all_from_lawful (count_of x) (parts_of x c.first_parts.new.parts c.first_parts.new.counts) (λ k h. (c.first_parts.ensures k h).lawful),
+            (c.count_classes-count.ensures, (c.fill_table.ensures, tt)),
           ),
         ),
       ),

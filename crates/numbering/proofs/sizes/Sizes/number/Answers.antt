@@ -22,8 +22,8 @@ returns-then-given-i c =
     let lt = c.loop-i-test.true in
     record { tells = sym (cond-false _ _ _ (adding_stop (sizes_in x) c.args.given.now i c.loop-i.n (own_below x i lt) (omega (arith, c.if-given-self.false)) c.loop-i.invariant (omega (arith, own_size x i lt, c.if-given-i.true)))); back = tt }
 
-pub overflow-mul-n : goal.overflow-mul-n
-overflow-mul-n c =
+pub overflow_mul-n : goal.overflow_mul-n
+overflow_mul-n c =
     let x = c.args.self.now in
     let i = c.loop-i.i in
     let lt = c.loop-i-test.true in
@@ -31,8 +31,8 @@ overflow-mul-n c =
     let small = adding_small (sizes_in x) c.args.given.now i c.loop-i.n (own_below x i lt) (own_product x (i + 1)) (own_most x) c.loop-i.invariant in
     omega (arith, ap (λ k. c.loop-i.n * k) (own_size x i lt), add-mul c.loop-i.n 1 d, one-mul d, small)
 
-pub overflow-add-n : goal.overflow-add-n
-overflow-add-n c =
+pub overflow_add-n : goal.overflow_add-n
+overflow_add-n c =
     let x = c.args.self.now in
     let i = c.loop-i.i in
     let lt = c.loop-i-test.true in

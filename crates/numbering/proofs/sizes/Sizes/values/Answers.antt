@@ -11,19 +11,19 @@ positive_width x s each i w rest lt m =
     let next = next_wide (sizes_in x) s each i w rest (own_below x i lt) (omega (arith, own_few x, x.counted)) some m in
     omega (arith, ap (λ d. w / d) (own_size x i lt), next, own_product x (i + 1))
 
-pub nonzero-div-w : goal.nonzero-div-w
-nonzero-div-w c =
+pub nonzero_div-w : goal.nonzero_div-w
+nonzero_div-w c =
     let x = c.args.self.now in
     omega (arith, own_size x c.loop-i.i c.loop-i-test.true, (own_range x c.loop-i.i c.loop-i-test.true).0)
 
 pub loop-i-init : goal.loop-i-init
 loop-i-init c = splitting_none (sizes_in c.args.self.now) c.args.s c.args.self.now.states c.args.self.now.made
 
-pub nonzero-div-each : goal.nonzero-div-each
-nonzero-div-each c = positive_width c.args.self.now c.args.s c.loop-i.each c.loop-i.i c.loop-i.w c.loop-i.rest c.loop-i-test.true c.loop-i.invariant
+pub nonzero_div-each : goal.nonzero_div-each
+nonzero_div-each c = positive_width c.args.self.now c.args.s c.loop-i.each c.loop-i.i c.loop-i.w c.loop-i.rest c.loop-i-test.true c.loop-i.invariant
 
-pub nonzero-rem-rest : goal.nonzero-rem-rest
-nonzero-rem-rest c = positive_width c.args.self.now c.args.s c.loop-i.each c.loop-i.i c.loop-i.w c.loop-i.rest c.loop-i-test.true c.loop-i.invariant
+pub nonzero_rem-rest : goal.nonzero_rem-rest
+nonzero_rem-rest c = positive_width c.args.self.now c.args.s c.loop-i.each c.loop-i.i c.loop-i.w c.loop-i.rest c.loop-i-test.true c.loop-i.invariant
 
 pub loop-i-preserved : goal.loop-i-preserved
 loop-i-preserved c =

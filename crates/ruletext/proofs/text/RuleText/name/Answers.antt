@@ -15,7 +15,7 @@ returns-then-v-len c =
     let variables = c.args.self.now.variables in
     let xs = vec_items variables in
     let lt : c.args.v < length xs = omega (arith, c.if-v-len.true, c.len.ensures, variables.ok.0) in
-    (omega (arith, length-map xs variable_of), c.as-slice.ensures.value ∙ ap (λ x. vec_items x.name) c.index.ensures ∙ sym (name_at xs c.args.v c.index.result.now lt))
+    (omega (arith, length-map xs variable_of), c.as_slice.ensures.value ∙ ap (λ x. vec_items x.name) c.index.ensures ∙ sym (name_at xs c.args.v c.index.result.now lt))
 
 pub returns-else-v-len : goal.returns-else-v-len
 returns-else-v-len c =

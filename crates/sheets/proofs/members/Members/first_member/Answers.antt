@@ -8,7 +8,7 @@ use Rattle.sheets.proofs.members.Members.first_member.Goals as goal
 pub returns-then-k-self : goal.returns-then-k-self
 returns-then-k-self c =
     let x = c.args.self.now in
-    lowest_of (partition x) c.args.k 0 (omega arith) _ _ (omega (arith, x.firsts c.args.k c.if-k-self.true)) c.if-state.ensures
+    lowest_of (partition x) c.args.k 0 (omega arith) _ _ (omega (arith, x.firsts c.args.k c.if-k-self.true)) c.if_state.ensures
 
 pub returns-else-k-self : goal.returns-else-k-self
 returns-else-k-self c v h m =

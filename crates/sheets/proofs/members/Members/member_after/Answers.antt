@@ -13,4 +13,4 @@ returns c =
     let s : ℕ = c.args.s in
     let inside : s < x.states = omega (arith, c.requires, partition_states x) in
     lowest_of (partition x) (class (partition x) s) (s + 1) (omega arith) _ _
-    (x.afters s inside ∙ ap (λ k. s + 1 + place k (drop (s + 1) (partition x).of)) (sym (table_class x.count x.states x.table s inside))) c.if-state.ensures
+    (x.afters s inside ∙ ap (λ k. s + 1 + place k (drop (s + 1) (partition x).of)) (sym (table_class x.count x.states x.table s inside))) c.if_state.ensures

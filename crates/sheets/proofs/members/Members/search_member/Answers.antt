@@ -8,11 +8,11 @@ use Rattle.sheets.proofs.members.Members.search_member.Goals as goal
 
 pub loop-s-preserved : goal.loop-s-preserved
 loop-s-preserved c =
-    missed_more (member (partition c.args.self.now) c.args.k) c.args.from c.loop-s.s c.loop-s.invariant (sym c.if-has-member.ensures)
+    missed_more (member (partition c.args.self.now) c.args.k) c.args.from c.loop-s.s c.loop-s.invariant (sym c.if-has_member.ensures)
 
-pub returns-then-has-member : goal.returns-then-has-member
-returns-then-has-member c =
-    scan_found (member (partition c.args.self.now) c.args.k) c.args.from c.loop-s.s c.loop-s.invariant c.loop-s.auto.s (sym c.if-has-member.ensures)
+pub returns-then-has_member : goal.returns-then-has_member
+returns-then-has_member c =
+    scan_found (member (partition c.args.self.now) c.args.k) c.args.from c.loop-s.s c.loop-s.invariant c.loop-s.auto.s (sym c.if-has_member.ensures)
 
 pub returns : goal.returns
 returns c =

@@ -7,23 +7,23 @@ use Rattle.sheets.proofs.members.build.tables.Goals as goal
 
 pub link-requires : goal.link-requires
 link-requires g c =
-    let table = c.copy-classes.new.table in
+    let table = c.copy_classes.new.table in
     let sheet = g.S.Sheet.classes c.args.sheet.now in
     record {
-      room = omega (arith, c.requires.room, c.copy-classes.auto.table);
+      room = omega (arith, c.requires.room, c.copy_classes.auto.table);
       long = c.requires.room;
-      below = λ s h. omega (arith, copied table sheet.of c.args.n s c.copy-classes.ensures h, c.requires.below s h, c.requires.few, c.requires.room);
+      below = λ s h. omega (arith, copied table sheet.of c.args.n s c.copy_classes.ensures h, c.requires.below s h, c.requires.few, c.requires.room);
       none = λ k h. get_or-replicate 4096 k c.args.n 0 h;
     }
 
-pub invariant-of-result : goal.invariant-of-result
-invariant-of-result g c =
+pub invariant_of-result : goal.invariant_of-result
+invariant_of-result g c =
     let n = c.args.n in
-    let table = c.copy-classes.new.table in
+    let table = c.copy_classes.new.table in
     let first = c.link.new.first in
     let after = c.link.new.after in
     let sheet = g.S.Sheet.classes c.args.sheet.now in (
-      c.copy-classes.auto.table,
+      c.copy_classes.auto.table,
       (
         c.link.auto.first,
         (
@@ -33,11 +33,11 @@ invariant-of-result g c =
             (
               c.requires.few,
               (
-                λ s h. omega (arith, copied table sheet.of n s c.copy-classes.ensures h, c.requires.below s h),
+                λ s h. omega (arith, copied table sheet.of n s c.copy_classes.ensures h, c.requires.below s h),
                 (
                   λ k h. linked_first n table first after c.link.ensures k (omega (arith, c.link.auto.first, c.requires.few, c.requires.room)),
                   (
-                    linked_after n table first after c.link.ensures (omega (arith, c.requires.room, c.copy-classes.auto.table)),
+                    linked_after n table first after c.link.ensures (omega (arith, c.requires.room, c.copy_classes.auto.table)),
                     tt,
                   ),
                 ),
@@ -49,4 +49,4 @@ invariant-of-result g c =
     )
 
 pub returns : goal.returns
-returns g c = let make : List ℕ → Classes = λ xs. record { of = xs; count = c.args.count } in ap make c.copy-classes.ensures
+returns g c = let make : List ℕ → Classes = λ xs. record { of = xs; count = c.args.count } in ap make c.copy_classes.ensures

@@ -7,24 +7,24 @@ renumber-count-requires g c =
     let rules = g.R.RuleSource.rules c.args.source.now in
     let told = c.size-states.ensures in
     record {
-      room = omega (arith, told.tells, told.finite.most, c.part-breaking.auto.table);
+      room = omega (arith, told.tells, told.finite.most, c.part_breaking.auto.table);
       few = omega (arith, told.tells, told.finite.most);
-      small = λ s h. omega (arith, c.part-breaking.ensures s h, bit_most (rules.breaks s));
+      small = λ s h. omega (arith, c.part_breaking.ensures s h, bit_most (rules.breaks s));
     }
 
-pub invariant-of-result : goal.invariant-of-result
-invariant-of-result g c =
+pub invariant_of-result : goal.invariant_of-result
+invariant_of-result g c =
     let told = c.size-states.ensures in
     let anew = c.renumber-count.ensures in
-    let xs = c.part-breaking.new.table in
+    let xs = c.part_breaking.new.table in
     let ys = c.renumber-count.new.table in (
-      omega (arith, c.part-breaking.auto.table, c.renumber-count.auto.table),
+      omega (arith, c.part_breaking.auto.table, c.renumber-count.auto.table),
       (
         omega (arith, told.tells, told.finite.most),
         (
           anew.below,
           (
-            renumbered_occurs c.size-states.result xs ys c.renumber-count.result (omega (arith, told.tells, told.finite.most, c.part-breaking.auto.table, c.renumber-count.auto.table)) anew,
+            renumbered_occurs c.size-states.result xs ys c.renumber-count.result (omega (arith, told.tells, told.finite.most, c.part_breaking.auto.table, c.renumber-count.auto.table)) anew,
             tt,
           ),
         ),
@@ -34,5 +34,5 @@ invariant-of-result g c =
 pub returns : goal.returns
 returns g c =
     let told = c.size-states.ensures in
-    first_whole (g.R.RuleSource.rules c.args.source.now) c.size-states.result c.part-breaking.new.table c.renumber-count.new.table c.renumber-count.result told.tells
-    (omega (arith, told.tells, told.finite.most, c.part-breaking.auto.table, c.renumber-count.auto.table)) c.part-breaking.ensures c.renumber-count.ensures
+    first_whole (g.R.RuleSource.rules c.args.source.now) c.size-states.result c.part_breaking.new.table c.renumber-count.new.table c.renumber-count.result told.tells
+    (omega (arith, told.tells, told.finite.most, c.part_breaking.auto.table, c.renumber-count.auto.table)) c.part_breaking.ensures c.renumber-count.ensures

@@ -13,29 +13,29 @@ renumber-self-requires c =
     let may = c.if-not-splittable.ensures.0 refl in
     let more = split_room before c.args.class marks (table_lawful x.count x.states x.table room x.below x.occurs) may in
     record {
-      room = omega (arith, c.move-bad.auto.table);
+      room = omega (arith, c.move_bad.auto.table);
       few = x.held;
       small = λ s h.
           omega (
             arith,
-            moved_most x.count x.states c.args.class x.table c.move-bad.new.table marks room may c.move-bad.ensures x.below s h,
+            moved_most x.count x.states c.args.class x.table c.move_bad.new.table marks room may c.move_bad.ensures x.below s h,
             table_states x.count x.states x.table room,
             x.held,
           );
     }
 
-pub invariant-of-self : goal.invariant-of-self
-invariant-of-self c =
+pub invariant_of-self : goal.invariant_of-self
+invariant_of-self c =
     let x = c.args.self.now in
     let anew = c.renumber-self.ensures in
     let after = c.renumber-self.new.table in (
-      omega (arith, x.full, c.move-bad.auto.table, c.renumber-self.auto.table),
+      omega (arith, x.full, c.move_bad.auto.table, c.renumber-self.auto.table),
       (
         x.held,
         (
           anew.below,
           (
-            renumbered_occurs x.states c.move-bad.new.table after c.renumber-self.result (omega (arith, x.full, x.held, c.move-bad.auto.table, c.renumber-self.auto.table)) anew,
+            renumbered_occurs x.states c.move_bad.new.table after c.renumber-self.result (omega (arith, x.full, x.held, c.move_bad.auto.table, c.renumber-self.auto.table)) anew,
             tt,
           ),
         ),
@@ -49,8 +49,8 @@ returns c =
     let after = c.renumber-self.new.table in
     let may = c.if-not-splittable.ensures.0 refl in
     let formed =
-    split_whole x.count x.states c.args.class x.table c.move-bad.new.table marks (omega (arith, x.full, x.held)) may c.move-bad.ensures x.below
-    after c.renumber-self.result (omega (arith, x.full, x.held, c.move-bad.auto.table, c.renumber-self.auto.table)) c.renumber-self.ensures in
+    split_whole x.count x.states c.args.class x.table c.move_bad.new.table marks (omega (arith, x.full, x.held)) may c.move_bad.ensures x.below
+    after c.renumber-self.result (omega (arith, x.full, x.held, c.move_bad.auto.table, c.renumber-self.auto.table)) c.renumber-self.ensures in
     record {
       gives = (may, whole_into (table_classes x.count x.states x.table) marks (table_classes c.renumber-self.result x.states after) formed);
       formed = formed;

@@ -12,11 +12,11 @@ returns-then-s-states c =
     let x = c.args.self.now in
     let state : c.args.s < product (sizes_of x) = omega (arith, c.if-s-states.true, c.states.ensures) in
     record {
-      long = c.tuples-in.ensures.long;
+      long = c.tuples_in.ensures.long;
       tells = λ k.
           elim (cases_lt k (count_of x)) [
-            | inl lt ↦ c.tuples-in.ensures.tells k ∙ sym (cond-true _ _ _ (and_from _ _ (lt-ltb _ _ state) (lt-ltb _ _ lt)))
-            | inr le ↦ c.tuples-in.ensures.tells k ∙ no_tuple (sizes_of x) (clusters_of x) (count_of x) (own_shape x.clusters) k c.args.s le ∙ sym (cond-false _ _ _ (and_right _ _ (le-ltb _ _ le)))
+            | inl lt ↦ c.tuples_in.ensures.tells k ∙ sym (cond-true _ _ _ (and_from _ _ (lt-ltb _ _ state) (lt-ltb _ _ lt)))
+            | inr le ↦ c.tuples_in.ensures.tells k ∙ no_tuple (sizes_of x) (clusters_of x) (count_of x) (own_shape x.clusters) k c.args.s le ∙ sym (cond-false _ _ _ (and_right _ _ (le-ltb _ _ le)))
           ];
     }
 

@@ -8,13 +8,13 @@ use Rattle.words.proofs.PieceFacts.{pieces_full}
 use Rattle.words.proofs.EndFacts.{ending_none, ending_bad}
 use Rattle.words.proofs.text_reader.TextReader.ending.Goals as goal
 
-pub returns-then-is-empty : goal.returns-then-is-empty
-returns-then-is-empty c = ending_none _ _ (ap (pieces 10) (nil_from_length _ (true-eqb _ 0 c.if-is-empty.ensures)))
+pub returns-then-is_empty : goal.returns-then-is_empty
+returns-then-is_empty c = ending_none _ _ (ap (pieces 10) (nil_from_length _ (true-eqb _ 0 c.if-is_empty.ensures)))
 
-pub returns-in-err-line : goal.returns-in-err-line
-returns-in-err-line c =
+pub returns-in_err-line : goal.returns-in_err-line
+returns-in_err-line c =
     let p = err_from_is_err_and c.from-residual.result c.from-residual.ensures.1 in
     let n = c.args.self.now.line in
     let ls = lines_of c.args.self.now in
-    let full = pieces_full 10 c.args.self.now.rest.now (omega (arith, false-eqb _ 0 c.if-is-empty.ensures)) in
-    rw (p.1, p.2) (ending_bad n ls _ _ full c.in-err-line.ensures.tells)
+    let full = pieces_full 10 c.args.self.now.rest.now (omega (arith, false-eqb _ 0 c.if-is_empty.ensures)) in
+    rw (p.1, p.2) (ending_bad n ls _ _ full c.in_err-line.ensures.tells)
