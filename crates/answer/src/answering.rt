@@ -26,9 +26,9 @@ fn settle_in<S: Sheet>(
     marks: &mut [u8],
     scratch: &mut [u16],
 ) -> Result<Vec<u8>, AllocError>
-    requires same { states (classes sheet.old) ≡ (text_rules (rule_set text.now)).size }
+    requires same { states (S.classes sheet.old) ≡ (text_rules (rule_set text.now)).size }
     requires room { Room (text_rules (rule_set text.now)).size path.old marks.old scratch.old }
-    ensures { IfOk result (λ bytes. SettledAs (rule_set text.now) (classes sheet.old) bytes.items) }
+    ensures { IfOk result (λ bytes. SettledAs (rule_set text.now) (S.classes sheet.old) bytes.items) }
 {
     let said = match settle(text, sheet, path, marks, scratch) {
         Ok(said) => said,
@@ -40,8 +40,8 @@ fn settle_in<S: Sheet>(
 
 /// Settles the rules of a text from a sheet of its states.
 fn settle_by<S: Sheet>(heap: Global, text: &RuleText, sheet: &mut S) -> Result<Vec<u8>, AllocError>
-    requires { states (classes sheet.old) ≡ (text_rules (rule_set text.now)).size }
-    ensures { IfOk result (λ bytes. SettledAs (rule_set text.now) (classes sheet.old) bytes.items) }
+    requires { states (S.classes sheet.old) ≡ (text_rules (rule_set text.now)).size }
+    ensures { IfOk result (λ bytes. SettledAs (rule_set text.now) (S.classes sheet.old) bytes.items) }
 {
     let n = text.size() as usize;
     let mut path = vec![in heap; 0; n]?;

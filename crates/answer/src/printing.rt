@@ -50,7 +50,7 @@ fn class_text<S: Sheet>(
     sheet: &S,
     class: u16,
 ) -> Result<Vec<u8>, AllocError>
-    ensures { IfOk result (λ out. out.items ≡ class_line (rule_set text.now) (classes sheet.now) class) }
+    ensures { IfOk result (λ out. out.items ≡ class_line (rule_set text.now) (S.classes sheet.now) class) }
 {
     let mut line = vec![in heap; 0; class_length(text, sheet, class)]?;
     let _ = class_line(text, sheet, class, &mut line);
@@ -80,7 +80,7 @@ fn add_classes<S: Sheet>(
     text: &RuleText,
     sheet: &S,
 ) -> Result<(), AllocError>
-    ensures { OnOk result (out.new.items ≡ out.old.items ++ class_lines (rule_set text.now) (classes sheet.now) (classes sheet.now).count) }
+    ensures { OnOk result (out.new.items ≡ out.old.items ++ class_lines (rule_set text.now) (S.classes sheet.now) (S.classes sheet.now).count) }
 {
     for k in 0..sheet.count() {
         let line = class_text(heap, text, sheet, k)?;
@@ -97,7 +97,7 @@ pub(crate) fn report_text<S: Sheet>(
     said: Report,
     run: &[u16],
 ) -> Result<Vec<u8>, AllocError>
-    ensures { IfOk result (λ out. out.items ≡ printed (rule_set text.now) said run.now (classes sheet.now)) }
+    ensures { IfOk result (λ out. out.items ≡ printed (rule_set text.now) said run.now (S.classes sheet.now)) }
 {
     let mut out = verdict_text(heap, said)?;
     match said.verdict {

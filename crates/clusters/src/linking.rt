@@ -20,8 +20,8 @@ fn merge(labels: &mut [u16], from: u16, to: u16)
 /// The first of the first `n` variables that the atom reads, or `n` if it reads none.
 fn first_read<C: ColumnedSource>(source: &C, atom: u16, n: u16) -> u16
     ensures within { result ≤ n }
-    ensures before { (v : ℕ) → v < result → (columns source.now).reads atom v ≡ false }
-    ensures found { result < n → (columns source.now).reads atom result ≡ true }
+    ensures before { (v : ℕ) → v < result → (C.columns source.now).reads atom v ≡ false }
+    ensures found { result < n → (C.columns source.now).reads atom result ≡ true }
 {
     for v in 0..n {
         if source.reads(atom, v) {
@@ -34,10 +34,10 @@ fn first_read<C: ColumnedSource>(source: &C, atom: u16, n: u16) -> u16
 /// Gives the variables that the atom reads one label.
 fn link_atom<C: ColumnedSource>(source: &C, atom: u16, n: u16, labels: &mut [u16])
     requires few { n ≤ 12 }
-    requires labelled { Labelled (columns source.now).reads labels.old }
-    ensures labelled { Labelled (columns source.now).reads labels.new }
+    requires labelled { Labelled (C.columns source.now).reads labels.old }
+    ensures labelled { Labelled (C.columns source.now).reads labels.new }
     ensures coarser { Coarser labels.old labels.new }
-    ensures one { OneLabel ((columns source.now).reads atom) n labels.new }
+    ensures one { OneLabel ((C.columns source.now).reads atom) n labels.new }
 {
     let first = first_read(source, atom, n);
     for v in first..n {
@@ -52,9 +52,9 @@ fn link_atom<C: ColumnedSource>(source: &C, atom: u16, n: u16, labels: &mut [u16
 /// For each atom, gives the variables that it reads one label.
 pub(crate) fn link_all<C: ColumnedSource>(source: &C, n: u16, labels: &mut [u16])
     requires few { n ≤ 12 }
-    requires labelled { Labelled (columns source.now).reads labels.old }
-    ensures labelled { Labelled (columns source.now).reads labels.new }
-    ensures one { (a : ℕ) → a < (columns source.now).atoms → OneLabel ((columns source.now).reads a) n labels.new }
+    requires labelled { Labelled (C.columns source.now).reads labels.old }
+    ensures labelled { Labelled (C.columns source.now).reads labels.new }
+    ensures one { (a : ℕ) → a < (C.columns source.now).atoms → OneLabel ((C.columns source.now).reads a) n labels.new }
 {
     for atom in 0..source.atoms() {
         link_atom(source, atom, n, labels);

@@ -11,8 +11,8 @@ use rules::source::RuleSource;
 /// Copies the sizes of the variables.
 fn copy_sizes<C: ColumnedSource>(source: &C, n: u16, sizes: &mut [u16])
     requires room { n ≤ length sizes.old }
-    requires known { n ≤ length (columns source.now).sizes }
-    ensures { take n sizes.new ≡ take n (columns source.now).sizes }
+    requires known { n ≤ length (C.columns source.now).sizes }
+    ensures { take n sizes.new ≡ take n (C.columns source.now).sizes }
 {
     for v in 0..n {
         sizes[v as usize] = source.width(v).unwrap();
@@ -22,8 +22,8 @@ fn copy_sizes<C: ColumnedSource>(source: &C, n: u16, sizes: &mut [u16])
 impl Clusters {
     /// The clusters of a source's variables. At first each variable is labelled with its own number.
     pub fn new<C: ColumnedSource>(source: &C) -> Self
-        ensures made { ClustersOf (columns source.now) result }
-        ensures columned { Columned (C.RuleSource.rules source.now) (columns source.now) }
+        ensures made { ClustersOf (C.columns source.now) result }
+        ensures columned { Columned (C.RuleSource.rules source.now) (C.columns source.now) }
     {
         let n = source.variables();
         let mut sizes = [0; 12];

@@ -18,7 +18,7 @@ use tuples::tuple::Tuples;
 
 /// Whether an atom reads a variable of the cluster k.
 fn reads_cluster<C: ColumnedSource>(source: &C, clusters: &Clusters, k: usize, atom: u16) -> bool
-    ensures { Decides result (AtomOf (columns source.now) (partition clusters.now) k atom) }
+    ensures { Decides result (AtomOf (C.columns source.now) (partition clusters.now) k atom) }
 {
     for v in 0..clusters.variables() {
         if clusters.cluster(v) as usize == k && source.reads(atom, v as u16) {
@@ -40,7 +40,7 @@ fn truths<C: ColumnedSource>(
     requires all { count ≡ width (sizes_of tuples.now) (clusters_of tuples.now) k }
     requires few { count ≤ 1024 }
     ensures long { length result ≡ 1024 }
-    ensures tells { (s : ℕ) → s < product (sizes_of tuples.now) → slice_index_or result (tuple (sizes_of tuples.now) (clusters_of tuples.now) k s) false ≡ (columns source.now).truth (part (sizes_of tuples.now) (clusters_of tuples.now) k s) atom }
+    ensures tells { (s : ℕ) → s < product (sizes_of tuples.now) → slice_index_or result (tuple (sizes_of tuples.now) (clusters_of tuples.now) k s) false ≡ (C.columns source.now).truth (part (sizes_of tuples.now) (clusters_of tuples.now) k s) atom }
 {
     let mut bits = [false; 1024];
     for t in 0..count {
@@ -56,12 +56,12 @@ pub(crate) fn first_cluster<C: ColumnedSource>(
     k: usize,
     classes: &mut [u16],
 ) -> u16
-    requires columned { Columned (C.RuleSource.rules source.now) (columns source.now) }
-    requires made { ClustersOf (columns source.now) tuples.now.clusters }
+    requires columned { Columned (C.RuleSource.rules source.now) (C.columns source.now) }
+    requires made { ClustersOf (C.columns source.now) tuples.now.clusters }
     requires cluster { k < count_of tuples.now }
     requires all { length classes.old ≡ width (sizes_of tuples.now) (clusters_of tuples.now) k }
     requires few { length classes.old ≤ 1024 }
-    ensures { Grouping tuples.now k (Agree (columns source.now) (partition tuples.now.clusters) k) (listed result classes.new) }
+    ensures { Grouping tuples.now k (Agree (C.columns source.now) (partition tuples.now.clusters) k) (listed result classes.new) }
 {
     classes.fill(0);
     let mut count = refine(classes, &[false; 1024]);
@@ -81,11 +81,11 @@ pub(crate) fn first_parts<C: ColumnedSource>(
     parts: &mut [u16],
     counts: &mut [u16],
 )
-    requires columned { Columned (C.RuleSource.rules source.now) (columns source.now) }
-    requires made { ClustersOf (columns source.now) tuples.now.clusters }
+    requires columned { Columned (C.RuleSource.rules source.now) (C.columns source.now) }
+    requires made { ClustersOf (C.columns source.now) tuples.now.clusters }
     requires long { length parts.old ≡ 1024 }
     requires each { length counts.old ≡ 12 }
-    ensures { (k : ℕ) → k < count_of tuples.now → Grouping tuples.now k (Agree (columns source.now) (partition tuples.now.clusters) k) (parts_of tuples.now parts.new counts.new k) }
+    ensures { (k : ℕ) → k < count_of tuples.now → Grouping tuples.now k (Agree (C.columns source.now) (partition tuples.now.clusters) k) (parts_of tuples.now parts.new counts.new k) }
 {
     for k in 0..tuples.count() {
         let Piece { from, to } = piece_of(tuples, k);

@@ -13,7 +13,7 @@ use tuples::tuple::Tuples;
 impl ColumnSheet {
     /// The classes of the source's states by its atoms, cluster by cluster.
     pub fn new<C: ColumnedSource>(source: &C) -> Result<ColumnSheet, ColumnFault>
-        ensures { ColumnsGive (columns source.now) result }
+        ensures { ColumnsGive (C.columns source.now) result }
     {
         let Some(tuples) = Tuples::new(Clusters::new(source)) else {
             return Err(ColumnFault::TooManyTuples);

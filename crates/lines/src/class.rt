@@ -14,7 +14,7 @@ use sheets::sheet::Sheet;
 
 /// Whether a number is a state of a class.
 fn is_member<S: Sheet>(sheet: &S, class: u16, s: u16) -> bool
-    ensures { result ≡ member (classes sheet.now) class s }
+    ensures { result ≡ member (S.classes sheet.now) class s }
 {
     match sheet.class(s) {
         Some(k) => k == class,
@@ -24,7 +24,7 @@ fn is_member<S: Sheet>(sheet: &S, class: u16, s: u16) -> bool
 
 /// How many states a class has.
 fn member_count<S: Sheet>(sheet: &S, class: u16) -> u16
-    ensures { result ≡ member_count (classes sheet.now) class }
+    ensures { result ≡ member_count (S.classes sheet.now) class }
 {
     let mut n = 0;
     for s in 0..sheet.states() {
@@ -37,7 +37,7 @@ fn member_count<S: Sheet>(sheet: &S, class: u16) -> u16
 
 /// The lowest state of a class.
 fn lowest_member<S: Sheet>(sheet: &S, class: u16) -> u16
-    ensures { result ≡ lowest_member (classes sheet.now) class }
+    ensures { result ≡ lowest_member (S.classes sheet.now) class }
 {
     let n = sheet.states();
     for s in 0..n {
@@ -50,8 +50,8 @@ fn lowest_member<S: Sheet>(sheet: &S, class: u16) -> u16
 
 /// Puts the class's line at the front of an area.
 fn put_class<S: Sheet>(area: &mut [u8], text: &RuleText, sheet: &S, class: u16) -> usize
-    ensures puts { Puts (class_line (rule_set text.now) (classes sheet.now) class) area.old 0 result area.new }
-    ensures short { length (class_line (rule_set text.now) (classes sheet.now) class) ≤ 450 }
+    ensures puts { Puts (class_line (rule_set text.now) (S.classes sheet.now) class) area.old 0 result area.new }
+    ensures short { length (class_line (rule_set text.now) (S.classes sheet.now) class) ≤ 450 }
 {
     if class >= sheet.count() {
         return 0;
@@ -69,7 +69,7 @@ fn put_class<S: Sheet>(area: &mut [u8], text: &RuleText, sheet: &S, class: u16) 
 
 /// How many bytes the class's line has; 0 for a number that is no class.
 pub fn class_length<S: Sheet>(text: &RuleText, sheet: &S, class: u16) -> usize
-    ensures { result ≡ length (class_line (rule_set text.now) (classes sheet.now) class) }
+    ensures { result ≡ length (class_line (rule_set text.now) (S.classes sheet.now) class) }
 {
     put_class(&mut [], text, sheet, class)
 }
@@ -81,7 +81,7 @@ pub fn class_line<S: Sheet>(
     class: u16,
     area: &mut [u8],
 ) -> Result<usize, LineFault>
-    ensures { LineGives (class_line (rule_set text.now) (classes sheet.now) class) area.old result area.new }
+    ensures { LineGives (class_line (rule_set text.now) (S.classes sheet.now) class) area.old result area.new }
 {
     if class_length(text, sheet, class) > area.len() {
         return Err(LineFault::ShortArea);

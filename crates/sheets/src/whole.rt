@@ -7,13 +7,14 @@ ghost use Rattle.sheets.specs.Tables.{table_classes};
 ghost use Rattle.sheets.specs.Whole.{FirstWhole, WholeSplit};
 
 use crate::sheet::{Sheet, SheetFault};
+use rules::list::MOST_STATES;
 use rules::source::RuleSource;
 
 /// A class number for each state. Classes are numbered by lowest member, and a split moves the bad states to a class of their own.
 #[derive(Drop)]
 pub struct WholeSheet {
     /// The class of each state.
-    table: [u16; <WholeSheet as Sheet>::MOST],
+    table: [u16; MOST_STATES],
     states: u16,
     count: u16,
     ghost full: { length table ≡ 4096 },
@@ -70,7 +71,7 @@ pub(crate) fn renumber(table: &mut [u16], n: usize) -> u16
     requires small { (s : ℕ) → s < n → slice_index table.old s < 4096 }
     ensures { Renumbered n table.old table.new result }
 {
-    let mut numbers = [UNNUMBERED; <WholeSheet as Sheet>::MOST];
+    let mut numbers = [UNNUMBERED; MOST_STATES];
     let mut count = 0;
     for s in 0..n {
         let old = table[s] as usize;
@@ -86,7 +87,7 @@ pub(crate) fn renumber(table: &mut [u16], n: usize) -> u16
 /// Writes 1 for each state that breaks, and 0 for each other.
 fn part_breaking<R: RuleSource>(source: &R, n: u16, table: &mut [u16])
     requires { n ≤ length table.old }
-    ensures { (s : ℕ) → s < n → slice_index table.new s ≡ bit ((rules source.now).breaks s) }
+    ensures { (s : ℕ) → s < n → slice_index table.new s ≡ bit ((R.rules source.now).breaks s) }
 {
     for s in 0..n {
         table[s as usize] = if source.breaks(s) { 1 } else { 0 };
@@ -96,10 +97,10 @@ fn part_breaking<R: RuleSource>(source: &R, n: u16, table: &mut [u16])
 impl WholeSheet {
     /// The breaking states as one class and the others as another, if both occur.
     pub fn new<R: RuleSource>(source: &R) -> Self
-        ensures { FirstWhole (rules source.now) (table_classes result.count result.states result.table) }
+        ensures { FirstWhole (R.rules source.now) (table_classes result.count result.states result.table) }
     {
         let states = source.size();
-        let mut table = [0; <WholeSheet as Sheet>::MOST];
+        let mut table = [0; MOST_STATES];
         part_breaking(source, states, &mut table);
         let count = renumber(&mut table, states as usize);
         WholeSheet {

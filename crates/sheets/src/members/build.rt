@@ -11,8 +11,8 @@ use crate::sheet::Sheet;
 /// Copies the classes of the first `n` states.
 fn copy_classes<S: Sheet>(sheet: &S, n: u16, table: &mut [u16])
     requires room { n ≤ length table.old }
-    requires known { n ≤ states (classes sheet.now) }
-    ensures { take n table.new ≡ take n (classes sheet.now).of }
+    requires known { n ≤ states (S.classes sheet.now) }
+    ensures { take n table.new ≡ take n (S.classes sheet.now).of }
 {
     for s in 0..n {
         table[s as usize] = sheet.class(s).unwrap();
@@ -36,11 +36,11 @@ fn link(table: &[u16], n: u16, first: &mut [u16], after: &mut [u16])
 
 /// The tables of the first `n` states, which have the first `count` classes.
 fn tables<S: Sheet>(sheet: &S, n: u16, count: u16) -> Members
-    requires known { n ≤ states (classes sheet.now) }
+    requires known { n ≤ states (S.classes sheet.now) }
     requires room { n ≤ 4096 }
     requires few { count ≤ n }
-    requires below { (s : ℕ) → s < n → class (classes sheet.now) s < count }
-    ensures { partition result ≡ table_classes count n (classes sheet.now).of }
+    requires below { (s : ℕ) → s < n → class (S.classes sheet.now) s < count }
+    ensures { partition result ≡ table_classes count n (S.classes sheet.now).of }
 {
     let mut table = [0; MOST];
     copy_classes(sheet, n, &mut table);
@@ -60,7 +60,7 @@ impl Members {
     /// The members of each class of a sheet. A sheet with over 4,096 states, for which the tables have no room, is taken for one without
     /// states.
     pub fn new<S: Sheet>(sheet: &S) -> Self
-        ensures { partition result ≡ held (classes sheet.now) }
+        ensures { partition result ≡ held (S.classes sheet.now) }
     {
         let n = sheet.states();
         if n as usize <= MOST {

@@ -8,7 +8,7 @@ use Rattle.conditions.proofs.parser.+conjunction_disjunction_negation_primary.Go
 
 pub conjunction-returns-in_err-first : goal.conjunction-returns-in_err-first
 conjunction-returns-in_err-first t c =
-    let p = err_from_is_err_and c.from-residual.result c.from-residual.ensures.1 in
+    let p = err_from_is_err_and c.from_residual.result c.from_residual.ensures.1 in
     rw (p.1, p.2) (joined_left_fails (names_of c.args.known.now) (codes "and") both and_level not_level refl (λ n ws. refl) _ _ _ c.in_err-first.ensures)
 
 pub conjunction-returns-then-not-skip : goal.conjunction-returns-then-not-skip
@@ -17,7 +17,7 @@ conjunction-returns-then-not-skip t c =
 
 pub conjunction-returns-in_err-second : goal.conjunction-returns-in_err-second
 conjunction-returns-in_err-second t c =
-    let p = err_from_is_err_and c.from-residual-in_err-second.result c.from-residual-in_err-second.ensures.1 in
+    let p = err_from_is_err_and c.from_residual-in_err-second.result c.from_residual-in_err-second.ensures.1 in
     rw (p.1, p.2) (joined_right_fails (names_of c.args.known.now) (codes "and") both and_level not_level refl (λ n ws. refl) _ _ _ _ c.in_ok-first.ensures _ (sym c.if-not-skip.ensures.answer) (record { rest = c.if-not-skip.ensures.rest; same = c.if-not-skip.ensures.same }) _ c.in_err-second.ensures)
 
 pub conjunction-returns : goal.conjunction-returns
@@ -28,7 +28,7 @@ conjunction-returns t c =
 
 pub disjunction-returns-in_err-first : goal.disjunction-returns-in_err-first
 disjunction-returns-in_err-first t c =
-    let p = err_from_is_err_and c.from-residual.result c.from-residual.ensures.1 in
+    let p = err_from_is_err_and c.from_residual.result c.from_residual.ensures.1 in
     rw (p.1, p.2) (joined_left_fails (names_of c.args.known.now) (codes "or") either or_level and_level refl (λ n ws. refl) _ _ _ c.in_err-first.ensures)
 
 pub disjunction-returns-then-not-skip : goal.disjunction-returns-then-not-skip
@@ -37,7 +37,7 @@ disjunction-returns-then-not-skip t c =
 
 pub disjunction-returns-in_err-second : goal.disjunction-returns-in_err-second
 disjunction-returns-in_err-second t c =
-    let p = err_from_is_err_and c.from-residual-in_err-second.result c.from-residual-in_err-second.ensures.1 in
+    let p = err_from_is_err_and c.from_residual-in_err-second.result c.from_residual-in_err-second.ensures.1 in
     rw (p.1, p.2) (joined_right_fails (names_of c.args.known.now) (codes "or") either or_level and_level refl (λ n ws. refl) _ _ _ _ c.in_ok-first.ensures _ (sym c.if-not-skip.ensures.answer) (record { rest = c.if-not-skip.ensures.rest; same = c.if-not-skip.ensures.same }) _ c.in_err-second.ensures)
 
 pub disjunction-returns : goal.disjunction-returns
@@ -48,7 +48,7 @@ disjunction-returns t c =
 
 pub negation-returns-in_err-inner : goal.negation-returns-in_err-inner
 negation-returns-in_err-inner t c =
-    let p = err_from_is_err_and c.from-residual.result c.from-residual.ensures.1 in
+    let p = err_from_is_err_and c.from_residual.result c.from_residual.ensures.1 in
     rw (p.1, p.2) (not_fails _ _ _ _ (sym c.if-skip.ensures.answer) (record { rest = c.if-skip.ensures.rest; same = c.if-skip.ensures.same }) _ c.in_err-inner.ensures)
 
 pub negation-returns-then-skip : goal.negation-returns-then-skip
@@ -61,7 +61,7 @@ negation-returns t c =
 
 pub primary-returns-in_err-inner : goal.primary-returns-in_err-inner
 primary-returns-in_err-inner t c =
-    let p = err_from_is_err_and c.from-residual.result c.from-residual.ensures.1 in
+    let p = err_from_is_err_and c.from_residual.result c.from_residual.ensures.1 in
     rw (p.1, p.2) (inner_fails _ _ _ _ (sym c.if-skip.ensures.answer) (record { rest = c.if-skip.ensures.rest; same = c.if-skip.ensures.same }) _ c.in_err-inner.ensures)
 
 pub primary-returns-then-not-skip : goal.primary-returns-then-not-skip
@@ -80,7 +80,7 @@ primary-returns-then-skip-2 t c =
 
 pub primary-returns-in_err-comparison : goal.primary-returns-in_err-comparison
 primary-returns-in_err-comparison t c =
-    let p = err_from_is_err_and c.from-residual-in_err-comparison.result c.from-residual-in_err-comparison.ensures.1 in
+    let p = err_from_is_err_and c.from_residual-in_err-comparison.result c.from_residual-in_err-comparison.ensures.1 in
     let none = c.if-skip.ensures in
     let second = c.if-skip-2.ensures in
     let says = rw (second.rest, none.rest, second.same, none.same) at c.in_err-comparison.ensures.says in

@@ -14,7 +14,7 @@ use Rattle.conditions.proofs.parser.whole_condition.Goals as goal
 
 pub returns-in_err-cond : goal.returns-in_err-cond
 returns-in_err-cond c =
-    let p = err_from_is_err_and c.from-residual.result c.from-residual.ensures.1 in
+    let p = err_from_is_err_and c.from_residual.result c.from_residual.ensures.1 in
     let ns = names_of c.args.known.now in
     let ws = left c.args.line.now in
     let fault = c.in_err-cond.field-0.0 in

@@ -10,7 +10,7 @@ use Rattle.reader.proofs.blocks.block.Goals as goal
 
 pub returns-in_err-case : goal.returns-in_err-case
 returns-in_err-case c =
-    let p = err_from_is_err_and c.from-residual-in_err-case.result c.from-residual-in_err-case.ensures.1 in
+    let p = err_from_is_err_and c.from_residual-in_err-case.result c.from_residual-in_err-case.ensures.1 in
     let vs = vars_of c.args.known.now in
     let i = c.args.i in
     let n = c.args.reader.now.line in

@@ -11,7 +11,7 @@ use Rattle.reader.proofs.blocks.blocks.Goals as goal
 
 pub returns-in_err-block : goal.returns-in_err-block
 returns-in_err-block c =
-    let p = err_from_is_err_and c.from-residual-in_err-block.result c.from-residual-in_err-block.ensures.1 in
+    let p = err_from_is_err_and c.from_residual-in_err-block.result c.from_residual-in_err-block.ensures.1 in
     let vs = vars_of c.args.known.now in
     let n = c.args.reader.now.line in
     let ls = lines_of c.args.reader.now in

@@ -15,7 +15,7 @@ more-init c = (refl, λ n le. (n, le, ap (λ es. effects (names_of c.args.known.
 
 pub returns-in_err-e : goal.returns-in_err-e
 returns-in_err-e c = λ n le.
-    let p = err_from_is_err_and c.from-residual.result c.from-residual.ensures.1 in
+    let p = err_from_is_err_and c.from_residual.result c.from_residual.ensures.1 in
     let ns = names_of c.args.known.now in
     let m = c.more.invariant.1 n le in
     rw (p.1, p.2) (word_fails c.in_err-e.field-0.0 (effect ns (left c.more.line)) (effects ns n [] (left c.args.line.now)) c.more.line.number c.args.line.now.number c.more.invariant.0 (λ none. sym m.2 ∙ effects_none ns (vec_items c.more.out) (left c.more.line) m.0 none) c.in_err-e.ensures.says)

@@ -10,7 +10,7 @@ use Rattle.reader.proofs.text.read.Goals as goal
 
 pub returns-in_err-check_text : goal.returns-in_err-check_text
 returns-in_err-check_text c =
-    let p = err_from_is_err_and c.from-residual.result c.from-residual.ensures.1 in
+    let p = err_from_is_err_and c.from_residual.result c.from_residual.ensures.1 in
     let none = c.in_err-check_text.ensures in
     rw (p.1, p.2) (no_text c.args.text.now c.in_err-check_text.field-0.0 none.0 none.1)
 

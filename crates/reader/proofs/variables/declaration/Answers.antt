@@ -8,7 +8,7 @@ use Rattle.reader.proofs.variables.declaration.Goals as goal
 
 pub returns-in_err-starts : goal.returns-in_err-starts
 returns-in_err-starts c =
-    let p = err_from_is_err_and c.from-residual.result c.from-residual.ensures.1 in
+    let p = err_from_is_err_and c.from_residual.result c.from_residual.ensures.1 in
     let first = c.in-Some.ensures in
     let second = c.in-Some-next_token.ensures in
     let rest = left c.next_token-2.new.self in

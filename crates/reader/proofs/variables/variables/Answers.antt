@@ -12,7 +12,7 @@ use Rattle.reader.proofs.variables.variables.Goals as goal
 
 pub returns-in_err-v : goal.returns-in_err-v
 returns-in_err-v c =
-    let p = err_from_is_err_and c.from-residual-in_err-v.result c.from-residual-in_err-v.ensures.1 in
+    let p = err_from_is_err_and c.from_residual-in_err-v.result c.from_residual-in_err-v.ensures.1 in
     let says = rw c.deref.ensures.value at c.in_err-v.ensures.tells in
     let ok : within 1 12 c.in_ok-count.count ≡ true = and_from _ _ (le-leb _ _ c.if-count-lt1.false) (le-leb _ _ c.if-count-gt-MOST_VARIABLES.false) in
     rw (p.1, p.2) (comes_through c.in_err-v.field-0.0 (variable (vars_in c.loop-i.known) c.loop-i.reader.line (lines_of c.loop-i.reader)) (section_variables c.args.reader.now.line (lines_of c.args.reader.now)) (λ item at e. section_is variable (codes "variables") (within 1 12) c.args.reader.now.line _ _ (lines_of c.args.reader.now) _ c.in_ok-count.ensures ok ∙ turn_fails variable _ _ _ _ _ _ c.loop-i.invariant.0 c.loop-i-test.true item at e) says)
@@ -28,7 +28,7 @@ loop-i-preserved c =
 
 pub returns-in_err-push : goal.returns-in_err-push
 returns-in_err-push c =
-    let p = err_from_is_err_and c.from-residual-in_err-push.result c.from-residual-in_err-push.ensures.1 in
+    let p = err_from_is_err_and c.from_residual-in_err-push.result c.from_residual-in_err-push.ensures.1 in
     rw (p.1, p.2) tt
 
 pub returns : goal.returns

@@ -26,4 +26,4 @@ returns-then-table-s c =
 
 pub returns : goal.returns
 returns c =
-    scanning_all c.args.count c.args.n c.args.class c.args.table.now c.args.marks.now c.requires c.loop-s.s c.loop-s.dead c.loop-s.bad (omega arith) c.if-class_count.false c.if-marks-n.false c.loop-s.invariant
+    scanning_all c.args.count c.args.n c.args.class c.args.table.now c.args.marks.now c.requires c.loop-s.s c.loop-s.dead c.loop-s.bad (omega arith) c.if-class-count.false c.if-marks-n.false c.loop-s.invariant

@@ -12,7 +12,7 @@ returns-then-count-lt1 c =
 pub returns-in_err-states : goal.returns-in_err-states
 returns-in_err-states c =
     let n = length c.args.given.now in
-    rw c.from-residual.ensures (and_right (leb 1 n) _ (and_right (leb n 12) _ c.in_err-states.ensures))
+    rw c.from_residual.ensures (and_right (leb 1 n) _ (and_right (leb n 12) _ c.in_err-states.ensures))
 
 pub invariant_of-result : goal.invariant_of-result
 invariant_of-result c =

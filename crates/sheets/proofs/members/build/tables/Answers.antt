@@ -22,31 +22,17 @@ invariant_of-result g c =
     let table = c.copy_classes.new.table in
     let first = c.link.new.first in
     let after = c.link.new.after in
-    let sheet = g.S.Sheet.classes c.args.sheet.now in (
-      c.copy_classes.auto.table,
-      (
-        c.link.auto.first,
-        (
-          c.link.auto.after,
-          (
-            c.requires.room,
-            (
-              c.requires.few,
-              (
-                λ s h. omega (arith, copied table sheet.of n s c.copy_classes.ensures h, c.requires.below s h),
-                (
-                  λ k h. linked_first n table first after c.link.ensures k (omega (arith, c.link.auto.first, c.requires.few, c.requires.room)),
-                  (
-                    linked_after n table first after c.link.ensures (omega (arith, c.requires.room, c.copy_classes.auto.table)),
-                    tt,
-                  ),
-                ),
-              ),
-            ),
-          ),
-        ),
-      ),
-    )
+    let sheet = g.S.Sheet.classes c.args.sheet.now in
+    record {
+      full = c.copy_classes.auto.table;
+      wide = c.link.auto.first;
+      long = c.link.auto.after;
+      held = c.requires.room;
+      few = c.requires.few;
+      below = λ s h. omega (arith, copied table sheet.of n s c.copy_classes.ensures h, c.requires.below s h);
+      firsts = λ k h. linked_first n table first after c.link.ensures k (omega (arith, c.link.auto.first, c.requires.few, c.requires.room));
+      afters = linked_after n table first after c.link.ensures (omega (arith, c.requires.room, c.copy_classes.auto.table));
+    }
 
 pub returns : goal.returns
 returns g c = let make : List ℕ → Classes = λ xs. record { of = xs; count = c.args.count } in ap make c.copy_classes.ensures

@@ -17,19 +17,13 @@ invariant_of-result g c =
     let told = c.size-states.ensures in
     let anew = c.renumber-count.ensures in
     let xs = c.part_breaking.new.table in
-    let ys = c.renumber-count.new.table in (
-      omega (arith, c.part_breaking.auto.table, c.renumber-count.auto.table),
-      (
-        omega (arith, told.tells, told.finite.most),
-        (
-          anew.below,
-          (
-            renumbered_occurs c.size-states.result xs ys c.renumber-count.result (omega (arith, told.tells, told.finite.most, c.part_breaking.auto.table, c.renumber-count.auto.table)) anew,
-            tt,
-          ),
-        ),
-      ),
-    )
+    let ys = c.renumber-count.new.table in
+    record {
+      full = omega (arith, c.part_breaking.auto.table, c.renumber-count.auto.table);
+      held = omega (arith, told.tells, told.finite.most);
+      below = anew.below;
+      occurs = renumbered_occurs c.size-states.result xs ys c.renumber-count.result (omega (arith, told.tells, told.finite.most, c.part_breaking.auto.table, c.renumber-count.auto.table)) anew;
+    }
 
 pub returns : goal.returns
 returns g c =

@@ -28,19 +28,13 @@ pub invariant_of-self : goal.invariant_of-self
 invariant_of-self c =
     let x = c.args.self.now in
     let anew = c.renumber-self.ensures in
-    let after = c.renumber-self.new.table in (
-      omega (arith, x.full, c.move_bad.auto.table, c.renumber-self.auto.table),
-      (
-        x.held,
-        (
-          anew.below,
-          (
-            renumbered_occurs x.states c.move_bad.new.table after c.renumber-self.result (omega (arith, x.full, x.held, c.move_bad.auto.table, c.renumber-self.auto.table)) anew,
-            tt,
-          ),
-        ),
-      ),
-    )
+    let after = c.renumber-self.new.table in
+    record {
+      full = omega (arith, x.full, c.move_bad.auto.table, c.renumber-self.auto.table);
+      held = x.held;
+      below = anew.below;
+      occurs = renumbered_occurs x.states c.move_bad.new.table after c.renumber-self.result (omega (arith, x.full, x.held, c.move_bad.auto.table, c.renumber-self.auto.table)) anew;
+    }
 
 pub returns : goal.returns
 returns c =

@@ -13,7 +13,7 @@ returns-then-is_empty c =
 
 -- what `==` answered
 answered : (c : After-eq) → opens_with c.args.word.now (words c.args.self.now.rest.now) ≡ c.eq.result
-answered c = ap (opens_with _) c.first_piece-first.ensures.cuts ∙ sym (same_from_decides _ _ (slice_eq-Decides Decides-eqb _ _ _ c.eq.ensures) (bytes_eq-Decides _ _))
+answered c = ap (opens_with _) c.first_piece-first.ensures.cuts ∙ sym c.eq.ensures
 
 pub returns-then-eq : goal.returns-then-eq
 returns-then-eq c =

@@ -13,7 +13,7 @@ returns-then-is_empty c = ending_none _ _ (ap (pieces 10) (nil_from_length _ (tr
 
 pub returns-in_err-line : goal.returns-in_err-line
 returns-in_err-line c =
-    let p = err_from_is_err_and c.from-residual.result c.from-residual.ensures.1 in
+    let p = err_from_is_err_and c.from_residual.result c.from_residual.ensures.1 in
     let n = c.args.self.now.line in
     let ls = lines_of c.args.self.now in
     let full = pieces_full 10 c.args.self.now.rest.now (omega (arith, false-eqb _ 0 c.if-is_empty.ensures)) in
