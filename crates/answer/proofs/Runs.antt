@@ -6,10 +6,10 @@ use Rattle.columnsheet.proofs.JoinFacts.{over_length}
 use Rattle.rules.specs.Rules.{Rules}
 use Rattle.sheets.specs.Classes.{Classes, states}
 use Rattle.search.specs.Areas.{Area}
-use Rattle.check.specs.Agreement.{Right}
-use Rattle.check.specs.declared.stage.Report.{Report}
-use Rattle.check.specs.declared.stage.Verdict.{Verdict}
-use Rattle.check.specs.declared.stage.Verdict.TheVariants.{Holds, Breaks}
+use Rattle.checking.specs.Agreement.{Right}
+use Rattle.checking.specs.declared.stage.Report.{Report}
+use Rattle.checking.specs.declared.stage.Verdict.{Verdict}
+use Rattle.checking.specs.declared.stage.Verdict.TheVariants.{Holds, Breaks}
 
 module _ (r : Rules) (first last : Classes) (path : Area) (splits : ℕ) (said : Report) (right : Right r first last path splits said) where
   by_verdict : (v : Verdict) → said.verdict ≡ v → length (take said.length path) ≡ said.length

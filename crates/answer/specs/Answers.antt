@@ -5,12 +5,12 @@ use Rattle.rules.specs.declared.refusal.Refusal.{Refusal}
 use Rattle.sheets.specs.Classes.{Classes}
 use Rattle.sheets.specs.Whole.{FirstWhole}
 use Rattle.search.specs.Areas.{Area}
-use Rattle.check.specs.Agreement.{Right, limit}
-use Rattle.check.specs.Begins.{ReportGives}
-use Rattle.check.specs.Histories.{History, configuration}
-use Rattle.check.specs.Histories.Check.{settled}
-use Rattle.check.specs.declared.stage.Report.{Report}
-use Rattle.check.specs.declared.stage.Settled.{Settled}
+use Rattle.checking.specs.Agreement.{Right, limit}
+use Rattle.checking.specs.Begins.{ReportGives}
+use Rattle.checking.specs.Histories.{History, configuration}
+use Rattle.checking.specs.Histories.Check.{settled}
+use Rattle.checking.specs.declared.stage.Report.{Report}
+use Rattle.checking.specs.declared.stage.Settled.{Settled}
 use Rattle.columnsheet.specs.Firsts.{FirstColumns, HasTooManyTuples}
 use Rattle.lines.specs.Lines.{refusal_line}
 use Rattle.reader.specs.Answers.{RefusedWith}

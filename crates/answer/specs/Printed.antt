@@ -1,8 +1,8 @@
 -- The lines that follow a verdict: the states of the run on 'breaks', the classes on 'holds'.
 use Rattle.std.specs.Prelude.{ℕ, zero, suc, List, [], ◌∷◌, ◌++◌}
-use Rattle.check.specs.declared.stage.Report.{Report}
-use Rattle.check.specs.declared.stage.Verdict.{Verdict}
-use Rattle.check.specs.declared.stage.Verdict.TheVariants.{Holds, Breaks}
+use Rattle.checking.specs.declared.stage.Report.{Report}
+use Rattle.checking.specs.declared.stage.Verdict.{Verdict}
+use Rattle.checking.specs.declared.stage.Verdict.TheVariants.{Holds, Breaks}
 use Rattle.lines.specs.Classes.{class_line}
 use Rattle.lines.specs.Lines.{verdict_line}
 use Rattle.lines.specs.States.{state_line}

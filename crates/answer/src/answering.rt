@@ -1,6 +1,6 @@
 //! From a text to its answer.
 ghost use Rattle.std.specs.Prelude.{◌≡◌, IfOk};
-ghost use Rattle.check.specs.Agreement.{ChecksAgree};
+ghost use Rattle.checking.specs.Agreement.{ChecksAgree};
 ghost use Rattle.ruletext.specs.Wholes.{rule_set};
 ghost use Rattle.sheets.specs.Classes.{states};
 ghost use Rattle.steps.specs.Meaning.{text_rules};
@@ -9,7 +9,7 @@ ghost use Rattle.answer.specs.Answers.{AnswerGives, SettledAs, SettledText};
 
 use crate::answer::Answer;
 use crate::printing::{refusal_text, report_text};
-use check::settle::settle;
+use checking::settle::settle;
 use columnsheet::sheet::ColumnSheet;
 use rules::source::RuleSource;
 use ruletext::text::RuleText;

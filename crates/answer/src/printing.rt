@@ -6,7 +6,7 @@ ghost use Rattle.lines.specs.Lines.{verdict_line, refusal_line};
 ghost use Rattle.lines.specs.States.{state_line};
 ghost use Rattle.answer.specs.Printed.{state_lines, class_lines, printed};
 
-use check::stage::{Report, Verdict};
+use checking::stage::{Report, Verdict};
 use lines::class::{class_length, class_line};
 use lines::refused::{refusal_length, refusal_line};
 use lines::state::{state_length, state_line};

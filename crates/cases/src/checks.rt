@@ -1,8 +1,8 @@
 //! The calls of a check, one by one and as a whole.
-use check::calls::{begin, report, search, split, trace};
-use check::fault::CheckFault;
-use check::settle::settle;
-use check::stage::{Followed, Report, Searched, Spurious, Suspect, Verdict};
+use checking::calls::{begin, report, search, split, trace};
+use checking::fault::CheckFault;
+use checking::settle::settle;
+use checking::stage::{Followed, Report, Searched, Spurious, Suspect, Verdict};
 use rules::list::TransitionList;
 use rules::transition::Transition;
 use search::area::AreaFault;

@@ -1,6 +1,6 @@
 //! Rule texts: what is read, and what every other text is refused for.
-use check::settle::settle;
-use check::stage::Verdict;
+use checking::settle::settle;
+use checking::stage::Verdict;
 use rules::refusal::Refusal;
 use rules::source::RuleSource;
 use ruletext::text::RuleText;

@@ -1,9 +1,9 @@
 //! The column sheet: its classes, its checks and its limit, and the answers that follow.
 use answer::answer::Answer;
 use answer::answering::answer;
-use check::calls::{begin, report, search, trace};
-use check::settle::settle;
-use check::stage::{Followed, Report, Searched, Verdict};
+use checking::calls::{begin, report, search, trace};
+use checking::settle::settle;
+use checking::stage::{Followed, Report, Searched, Verdict};
 use columnsheet::sheet::ColumnSheet;
 use rules::refusal::Refusal;
 use ruletext::text::RuleText;

@@ -12,9 +12,9 @@ use Rattle.words.specs.Words.{Word, each}
 use Rattle.conditions.specs.Variables.{Var, names}
 use Rattle.reader.specs.RuleSets.{RuleSet}
 use Rattle.sheets.specs.Classes.{Classes}
-use Rattle.check.specs.declared.stage.Report.{Report}
-use Rattle.check.specs.declared.stage.Verdict.{Verdict}
-use Rattle.check.specs.declared.stage.Verdict.TheVariants.{Holds, Breaks}
+use Rattle.checking.specs.declared.stage.Report.{Report}
+use Rattle.checking.specs.declared.stage.Verdict.{Verdict}
+use Rattle.checking.specs.declared.stage.Verdict.TheVariants.{Holds, Breaks}
 use Rattle.steps.specs.Meaning.{sizes, size_of, is_state}
 use Rattle.ruletext.specs.Forms.{sound_variable, well_formed}
 use Rattle.ruletext.proofs.TextFacts.{formed_sizes}

@@ -1,7 +1,7 @@
 -- Some lines, by computing.
 use Rattle.std.proofs.Common.{◌≡◌, [], ◌∷◌, ◌++◌, codes, refl}
 use Rattle.std.specs.Fmt.{digits}
-use Rattle.check.specs.declared.stage.Verdict.TheVariants.{Breaks}
+use Rattle.checking.specs.declared.stage.Verdict.TheVariants.{Breaks}
 use Rattle.reader.specs.RuleSets.{RuleSet}
 use Rattle.sheets.specs.Places.{place}
 use Rattle.lines.specs.Lines.{verdict_line, refusal_line}

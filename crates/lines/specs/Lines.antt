@@ -2,9 +2,9 @@
 use Rattle.std.specs.Prelude.{ℕ, List, [], ◌∷◌, ◌++◌, codes, decimal}
 use Rattle.rules.specs.declared.refusal.Refusal.{Refusal}
 use Rattle.words.specs.Words.{Word}
-use Rattle.check.specs.declared.stage.Report.{Report}
-use Rattle.check.specs.declared.stage.Verdict.{Verdict}
-use Rattle.check.specs.declared.stage.Verdict.TheVariants.{Holds, Breaks}
+use Rattle.checking.specs.declared.stage.Report.{Report}
+use Rattle.checking.specs.declared.stage.Verdict.{Verdict}
+use Rattle.checking.specs.declared.stage.Verdict.TheVariants.{Holds, Breaks}
 
 -- a word and the number that stands behind it
 abbrev pub Item : Type 0

@@ -6,7 +6,7 @@ ghost use Rattle.lines.specs.Parts.{Puts};
 
 use crate::fault::LineFault;
 use crate::put::put_item;
-use check::stage::{Report, Verdict};
+use checking::stage::{Report, Verdict};
 
 /// The verdict in a word.
 fn verdict_word(verdict: Verdict) -> &'static [u8]

@@ -3,8 +3,8 @@ mod input;
 mod output;
 
 use anyhow::anyhow;
-use check::settle::settle;
-use check::stage::Verdict;
+use checking::settle::settle;
+use checking::stage::Verdict;
 use input::read_text;
 use output::{print_refusal, print_report, print_state};
 use rules::source::RuleSource;

@@ -1,5 +1,5 @@
 //! The lines that the program prints.
-use check::stage::{Report, Verdict};
+use checking::stage::{Report, Verdict};
 use columns::source::ColumnedSource;
 use rules::refusal::Refusal;
 use ruletext::text::RuleText;

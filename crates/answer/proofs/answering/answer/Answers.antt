@@ -1,4 +1,4 @@
-use Rattle.check.proofs.Agreement.{checks_agree}
+use Rattle.checking.proofs.Agreement.{checks_agree}
 use Rattle.answer.proofs.answering.answer.Goals as goal
 
 pub returns : goal.returns

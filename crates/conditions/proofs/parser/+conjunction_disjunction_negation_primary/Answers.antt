@@ -22,8 +22,8 @@ conjunction-returns-in_err-second t c =
 
 pub conjunction-returns : goal.conjunction-returns
 conjunction-returns t c =
-    let first = c.in_ok-new.ensures.made in
-    let second = c.in_ok-new-2.ensures.made in
+    let first = c.in_ok-new.ensures.ok in
+    let second = c.in_ok-new-2.ensures.ok in
     joined_right (names_of c.args.known.now) (codes "and") both and_level not_level refl (λ n ws. refl) _ _ _ _ c.in_ok-first.ensures _ (sym c.if-not-skip.ensures.answer) (record { rest = c.if-not-skip.ensures.rest; same = c.if-not-skip.ensures.same }) _ _ c.in_ok-second.ensures (λ i. both (tree (first i)) (tree (second i)))
 
 pub disjunction-returns-in_err-first : goal.disjunction-returns-in_err-first
@@ -42,8 +42,8 @@ disjunction-returns-in_err-second t c =
 
 pub disjunction-returns : goal.disjunction-returns
 disjunction-returns t c =
-    let first = c.in_ok-new.ensures.made in
-    let second = c.in_ok-new-2.ensures.made in
+    let first = c.in_ok-new.ensures.ok in
+    let second = c.in_ok-new-2.ensures.ok in
     joined_right (names_of c.args.known.now) (codes "or") either or_level and_level refl (λ n ws. refl) _ _ _ _ c.in_ok-first.ensures _ (sym c.if-not-skip.ensures.answer) (record { rest = c.if-not-skip.ensures.rest; same = c.if-not-skip.ensures.same }) _ _ c.in_ok-second.ensures (λ i. either (tree (first i)) (tree (second i)))
 
 pub negation-returns-in_err-inner : goal.negation-returns-in_err-inner
@@ -53,7 +53,7 @@ negation-returns-in_err-inner t c =
 
 pub negation-returns-then-skip : goal.negation-returns-then-skip
 negation-returns-then-skip t c =
-    not_reads _ _ _ _ (sym c.if-skip.ensures.answer) (record { rest = c.if-skip.ensures.rest; same = c.if-skip.ensures.same }) _ _ c.in_ok-inner.ensures (ap (λ x. not (tree x)) c.in_ok-new.ensures.made)
+    not_reads _ _ _ _ (sym c.if-skip.ensures.answer) (record { rest = c.if-skip.ensures.rest; same = c.if-skip.ensures.same }) _ _ c.in_ok-inner.ensures (ap (λ x. not (tree x)) c.in_ok-new.ensures.ok)
 
 pub negation-returns : goal.negation-returns
 negation-returns t c =

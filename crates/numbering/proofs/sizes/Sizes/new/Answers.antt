@@ -19,7 +19,11 @@ invariant_of-result c =
     let ds = c.args.given.now in
     let same = c.padded-each.ensures in
     let sound : sound_sizes ds ≡ true = and_from _ _ (le-leb 1 (length ds) c.if-count-lt1.false) (and_from _ _ (le-leb (length ds) 12 c.if-count-gt-MOST_VARIABLES.false) c.in_ok-states.ensures.0) in
-    (ap length same, (ap sound_sizes same ∙ sound, (c.in_ok-states.ensures.1 ∙ sym (ap product same), tt)))
+    record {
+      counted = ap length same;
+      sound = ap sound_sizes same ∙ sound;
+      made = c.in_ok-states.ensures.1 ∙ sym (ap product same);
+    }
 
 pub returns : goal.returns
 returns c = c.padded-each.ensures
