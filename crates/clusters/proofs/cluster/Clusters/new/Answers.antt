@@ -22,7 +22,17 @@ invariant_of-result g c =
     let wide = sizes_wide rules columns told.columned n told.tells sizes c.copy_sizes.ensures in
     let made = c.size.ensures.tells ∙ sym told.columned.states ∙ ap product (sym copied) in
     let anew = c.renumber-count.ensures in
-    (omega arith, (omega arith, (omega arith, (omega arith, (wide, (anew.below, (anew.few, (made, (omega arith, tt)))))))))
+    record {
+      long = omega arith;
+      each = omega arith;
+      some = omega arith;
+      few = omega arith;
+      wide = wide;
+      below = anew.below;
+      fewer = anew.few;
+      made = made;
+      most = omega arith;
+    }
 
 pub returns : goal.returns
 returns g c =
