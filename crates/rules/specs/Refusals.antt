@@ -1,5 +1,4 @@
 -- The number, the layer and the place of every refusal of this crate.
-use Rattle.std.specs.Prelude.{ℕ}
 use Rattle.rules.specs.declared.refusal.Refusal.{Refusal}
 use Rattle.rules.specs.declared.refusal.ListFault.{ListFault}
 use Rattle.rules.specs.declared.refusal.ListFault.TheVariants.{BadList, BadTransition}

@@ -1,4 +1,6 @@
 //! The text layer of a rule text: lines and words as parts of the lent bytes, and the refusals of layer 1.
+#![tactic(auto)]
+
 mod cut;
 pub mod fault;
 pub mod line;

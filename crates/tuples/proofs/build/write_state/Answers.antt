@@ -10,12 +10,12 @@ pub loop-k-init : goal.loop-k-init
 loop-k-init c = written_none (place (sizes_in c.args.clusters.now) (partition c.args.clusters.now).of c.args.s) c.args.s c.args.lowest.now
 
 -- the code's place is that of the tuple, and it is in the table
-place_is : (c : goal.After-lowest·1) → get_or c.args.starts.now c.loop-k.k 0 + get_or c.tuples_in-tuples.result c.loop-k.k 0 ≡ place (sizes_in c.args.clusters.now) (partition c.args.clusters.now).of c.args.s c.loop-k.k
+place_is : (c : goal.After-lowest-1) → get_or c.args.starts.now c.loop-k.k 0 + get_or c.tuples_in-tuples.result c.loop-k.k 0 ≡ place (sizes_in c.args.clusters.now) (partition c.args.clusters.now).of c.args.s c.loop-k.k
 place_is c =
     let k = c.loop-k.k in
     omega (arith, c.requires.started.each k (omega (arith, c.loop-k-test.true, c.count-k-end.ensures)), c.tuples_in-tuples.ensures.tells k)
 
-in_table : (c : goal.After-lowest·1) → place (sizes_in c.args.clusters.now) (partition c.args.clusters.now).of c.args.s c.loop-k.k < 1024
+in_table : (c : goal.After-lowest-1) → place (sizes_in c.args.clusters.now) (partition c.args.clusters.now).of c.args.s c.loop-k.k < 1024
 in_table c =
     let x = c.args.clusters.now in
     omega (arith, place_below (sizes_in x) (partition x).of x.count (own_shape x) c.loop-k.k c.args.s (omega (arith, c.loop-k-test.true, c.count-k-end.ensures)) c.requires.state, c.requires.started.most)

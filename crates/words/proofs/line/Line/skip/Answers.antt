@@ -1,7 +1,5 @@
 use Rattle.std.proofs.Common.{◌≡◌, sym, refl, ap, ◌∙◌, true-eqb}
 use Rattle.std.proofs.lemmas.List.{nil_from_length}
-use Rattle.std.proofs.lemmas.Bool.Decides.{same_from_decides, Decides-eqb}
-use Rattle.std.proofs.lemmas.Slice.Eq.{slice_eq-Decides, bytes_eq-Decides}
 use Rattle.words.specs.Words.{words, opens_with, after_first}
 use Rattle.words.proofs.line.Line.skip.Goals.{After-eq}
 use Rattle.words.proofs.line.Line.skip.Goals as goal

@@ -1,7 +1,6 @@
 use Rattle.std.proofs.Common.{ap, arith, true-eqb, false-eqb}
 use Rattle.std.proofs.lemmas.List.{nil_from_length}
 use Rattle.std.proofs.lemmas.Result.{err_from_is_err_and}
-use Rattle.words.specs.Reading.{ending}
 use Rattle.words.specs.Pieces.{pieces}
 use Rattle.words.specs.Lines.{lines_of}
 use Rattle.words.proofs.PieceFacts.{pieces_full}
