@@ -99,25 +99,25 @@ fn a_sum_is_taken_modulo_the_size(rt: HostRuntime) -> Result<(), Fail> {
 #[test]
 fn texts_at_their_limits_are_read(rt: HostRuntime) -> Result<(), Fail> {
     let heap = rt.alloc();
+    // size 16, opening words as names
     read(
         heap,
         b"variables 1\nblocks 16 0 15\nblocks 1\nblocks 0\nbreaks 0\n",
-    )
-    .note("size 16, opening words as names")?;
+    )?;
+    // 4,096 states
     read(
         heap,
         b"variables 3\na 16 0\nb 16 0\nc 16 0\nblocks 3\na 0\nb 0\nc 0\nbreaks 0\n",
-    )
-    .note("4,096 states")?;
+    )?;
     read(
         heap,
         b"variables 12\na 2 0\nb 2 0\nc 2 0\nd 2 0\ne 2 0\nf 2 0\ng 2 0\nh 2 0\ni 2 0\nj 2 0\nk 2 0\nl 2 0\nblocks 12\na 0\nb 0\nc 0\nd 0\ne 0\nf 0\ng 0\nh 0\ni 0\nj 0\nk 0\nl 0\nbreaks 0\n",
     )?;
+    // 8 letters, 8 lines, a result twice
     read(
         heap,
         b"variables 1\nlongname 2 0 1\nblocks 1\nlongname 8\nalways : 0\nalways : 0\nalways : 0\nalways : 0\nalways : 0\nalways : 0\nalways : 0\nalways : 0 , 0\nbreaks 0\n",
-    )
-    .note("8 letters, 8 lines, a result twice")?;
+    )?;
     read(
         heap,
         b"variables 1\nx 2 0\nblocks 1\nx 0\nbreaks 3\nnot not x = 9999\nnot always\n( ( always ) or x < x )\n",
@@ -128,9 +128,12 @@ fn texts_at_their_limits_are_read(rt: HostRuntime) -> Result<(), Fail> {
 fn what_is_no_text_is_refused_under_1(rt: HostRuntime) -> Result<(), Fail> {
     let heap = rt.alloc();
     refused(&rt, heap, 1, 1, 0, b"")?;
-    refused(&rt, heap, 1, 1, 0, b"variables 1\nx 2 0").note("no last line end")?;
-    refused(&rt, heap, 1, 1, 0, b"variables\t1\n").note("byte 9")?;
-    refused(&rt, heap, 1, 1, 0, b"variables 1\r\n").note("byte 13")?;
+    // no last line end
+    refused(&rt, heap, 1, 1, 0, b"variables 1\nx 2 0")?;
+    // byte 9
+    refused(&rt, heap, 1, 1, 0, b"variables\t1\n")?;
+    // byte 13
+    refused(&rt, heap, 1, 1, 0, b"variables 1\r\n")?;
     refused(&rt, heap, 1, 1, 0, &letters(heap, 8193)?)?;
     refused(&rt, heap, 3, 1, 1, &letters(heap, 8192)?)
 }
@@ -158,8 +161,10 @@ fn a_bad_line_is_refused_under_3(rt: HostRuntime) -> Result<(), Fail> {
     refused(&rt, heap, 3, 1, 1, b" variables 1\n")?;
     refused(&rt, heap, 3, 1, 1, b"variables  1\n")?;
     refused(&rt, heap, 3, 1, 2, b"variables 1\nx 2 0 \n")?;
-    refused(&rt, heap, 3, 1, 1, &letters(heap, 122)?).note("121 bytes")?;
-    refused(&rt, heap, 4, 1, 1, &letters(heap, 121)?).note("120 bytes")
+    // 121 bytes
+    refused(&rt, heap, 3, 1, 1, &letters(heap, 122)?)?;
+    // 120 bytes
+    refused(&rt, heap, 4, 1, 1, &letters(heap, 121)?)
 }
 
 #[test]
@@ -220,13 +225,15 @@ fn a_name_declared_twice_is_refused_under_6(rt: HostRuntime) -> Result<(), Fail>
     let heap = rt.alloc();
     refused(&rt, heap, 6, 2, 3, b"variables 2\nx 2 0\nx 2 0\n")?;
     refused(&rt, heap, 6, 2, 4, b"variables 3\nx 2 0\ny 2 0\nx 3 0\n")?;
-    refused(&rt, heap, 6, 2, 4, b"variables 3\nx 2 0\ny 2 0\ny 2 7\n").note("before 8")
+    // before 8
+    refused(&rt, heap, 6, 2, 4, b"variables 3\nx 2 0\ny 2 0\ny 2 7\n")
 }
 
 #[test]
 fn an_undeclared_name_is_refused_under_7(rt: HostRuntime) -> Result<(), Fail> {
     let heap = rt.alloc();
     refused(&rt, heap, 7, 2, 4, b"variables 1\nx 2 0\nblocks 1\ny 0\n")?;
+    // the block of another variable
     refused(
         &rt,
         heap,
@@ -234,8 +241,7 @@ fn an_undeclared_name_is_refused_under_7(rt: HostRuntime) -> Result<(), Fail> {
         2,
         5,
         b"variables 2\nx 2 0\ny 2 0\nblocks 2\ny 0\n",
-    )
-    .note("the block of another variable")?;
+    )?;
     refused(
         &rt,
         heap,
@@ -363,6 +369,7 @@ fn text_behind_the_last_line_is_refused_under_11(rt: HostRuntime) -> Result<(), 
         7,
         b"variables 1\nx 2 0\nblocks 1\nx 0\nbreaks 1\nalways\nvariables 1\n",
     )?;
+    // a bad line decides first
     refused(
         &rt,
         heap,
@@ -371,5 +378,4 @@ fn text_behind_the_last_line_is_refused_under_11(rt: HostRuntime) -> Result<(), 
         6,
         b"variables 1\nx 2 0\nblocks 1\nx 0\nbreaks 0\n\n",
     )
-    .note("a bad line decides first")
 }

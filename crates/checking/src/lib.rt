@@ -1,4 +1,6 @@
 //! A check: counterexample-guided refinement of a sheet, from `begin` to `report`.
+#![tactic(auto)]
+
 ghost use Rattle.checking.specs.Agreement.{ChecksAgree};
 
 mod area;

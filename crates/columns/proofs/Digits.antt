@@ -1,8 +1,8 @@
 -- Numbers and values, both ways.
-use Rattle.std.proofs.Common.{◌≡◌, ℕ, zero, suc, ◌+◌, ◌*◌, ◌/◌, ◌%◌, ◌<◌, ◌≤◌, true, false, ltb, List, [], ◌∷◌, length, get_or, drop, sym, refl, ap, ◌∙◌, mod-lt, mul_comm, div-lt_iff_lt-mul, mul-pos, div-add-mod', le-mul_of_pos_right, arith}
+use Rattle.std.proofs.Common.{◌≡◌, ℕ, zero, suc, ◌+◌, ◌*◌, ◌/◌, ◌%◌, ◌<◌, ◌≤◌, true, false, ltb, List, [], ◌∷◌, length, get_or, drop, refl, ap, ◌∙◌, mod-lt, mul_comm, div-lt_iff_lt-mul, mul-pos, div-add-mod', le-mul_of_pos_right, arith}
 use lib.Arith.{digits_lt, digits_div, digits_mod}
 use Rattle.std.proofs.lemmas.Bool.{and_parts, and_from, and_right, lt-ltb, ltb-true, false≢true}
-use Rattle.columns.specs.Columns.{product, number, values, value, fit}
+use Rattle.columns.specs.Columns.{product, number, values, fit}
 
 -- each size is above 0
 abbrev pub Positive : List ℕ → Type 0

@@ -7,7 +7,7 @@ use crate::joining::{count_classes, fill_table};
 use crate::sheet::ColumnSheet;
 use clusters::cluster::Clusters;
 use columns::source::ColumnedSource;
-use sheets::sheet::Sheet;
+use rules::list::MOST_STATES;
 use tuples::tuple::Tuples;
 
 impl ColumnSheet {
@@ -21,7 +21,7 @@ impl ColumnSheet {
         let mut parts = [0; 1024];
         let mut counts = [0; 12];
         first_parts(source, &tuples, &mut parts, &mut counts);
-        let mut table = [0; <ColumnSheet as Sheet>::MOST];
+        let mut table = [0; MOST_STATES];
         fill_table(&tuples, &parts, &counts, &mut table);
         let count = count_classes(&tuples, &parts, &counts);
         Ok(ColumnSheet {

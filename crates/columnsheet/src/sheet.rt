@@ -5,7 +5,7 @@ ghost use Rattle.tuples.specs.Meaning.{sizes_of, count_of};
 ghost use Rattle.columnsheet.specs.Joins.{all_lawful};
 ghost use Rattle.columnsheet.specs.Kept.{parts_of, class_number, class_count};
 
-use sheets::sheet::Sheet;
+use rules::list::MOST_STATES;
 use tuples::tuple::Tuples;
 
 /// Classes of states by classes of tuples. At first the tuples that agree on all atoms of their cluster form a class, and a split parts
@@ -18,7 +18,7 @@ pub struct ColumnSheet {
     /// How many classes each cluster has.
     pub(crate) counts: [u16; 12],
     /// The class of each state. It follows from those of its tuples, and is kept since it is asked for far more often than it changes.
-    pub(crate) table: [u16; <ColumnSheet as Sheet>::MOST],
+    pub(crate) table: [u16; MOST_STATES],
     pub(crate) count: u16,
     ghost long: { length parts ≡ 1024 },
     ghost each: { length counts ≡ 12 },

@@ -1,12 +1,12 @@
 -- What the grammar derives is read.
-use Rattle.std.proofs.Common.{◌≡◌, ℕ, ◌+◌, ◌≤◌, true, false, List, [], ◌∷◌, ◌++◌, length, Some, codes, sym, refl, ap, ◌∙◌, inl, inr, append_assoc, arith, length-append}
+use Rattle.std.proofs.Common.{◌≡◌, ℕ, ◌≤◌, true, false, List, [], ◌∷◌, ◌++◌, length, Some, codes, sym, refl, ap, ◌∙◌, inl, inr, append_assoc, arith, length-append}
 use Rattle.std.specs.Str.{bytes_eq}
 use Rattle.std.proofs.lemmas.Slice.Eq.{bytes_eq-Decides}
 use Rattle.std.proofs.lemmas.Bool.{cases_Bool, false≢true, cond-true, cond-false}
 use Rattle.words.specs.Words.{Word, is_name, opens_with}
-use Rattle.conditions.specs.Conditions.{Tree, always, not}
+use Rattle.conditions.specs.Conditions.{Tree}
 use Rattle.conditions.specs.Grammar.{Means, comparing, constant, bracket, plain, negated, one_and, more_and, one_or, more_or, Level, or_level, and_level, not_level, base_level}
-use Rattle.conditions.specs.Parser.{parse, depth, condition, compared}
+use Rattle.conditions.specs.Parser.{parse, depth, compared}
 use Rattle.conditions.specs.Variables.{place}
 use Rattle.conditions.proofs.LevelFacts.{deep}
 

@@ -1,5 +1,5 @@
 -- What a `Sizes` knows of itself.
-use Rattle.std.proofs.Common.{◌≡◌, ℕ, ◌+◌, ◌<◌, ◌≤◌, length, get_or, take, drop, sym, ap, ◌∙◌, arith}
+use Rattle.std.proofs.Common.{◌≡◌, ℕ, ◌<◌, ◌≤◌, length, get_or, drop, sym, arith}
 use Rattle.std.proofs.lemmas.List.{get_or-take}
 use Rattle.columns.specs.Columns.{product}
 use Rattle.columns.proofs.Digits.{Positive, product_positive, product_drop}

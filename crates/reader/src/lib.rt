@@ -1,4 +1,6 @@
 //! The reader of rule texts: what a planner writes becomes a rule set, and any other bytes are refused.
+#![tactic(auto)]
+
 mod blocks;
 mod breaks;
 mod effects;

@@ -1,24 +1,23 @@
 -- What a text says is well formed.
-use Rattle.std.proofs.Common.{◌≡◌, ℕ, ◌+◌, ◌*◌, ◌<◌, ◌≤◌, Bool, true, false, cond, ◌&&◌, eqb, leb, List, [], ◌∷◌, ◌++◌, map, length, codes, sym, refl, ap, ◌∙◌, subst, inl, inr, mul-one, mul-add, arith, length-append}
+use Rattle.std.proofs.Common.{◌≡◌, ℕ, ◌+◌, ◌*◌, ◌≤◌, Bool, true, cond, eqb, leb, List, [], ◌∷◌, map, length, codes, sym, refl, ap, ◌∙◌, inl, inr, mul-one, mul-add, arith, length-append}
 use lib.ListN.{length-map}
 use Rattle.std.specs.List.{flat_map}
 use Rattle.std.proofs.lemmas.List.{length_push}
 use Rattle.std.proofs.lemmas.Bool.{and_parts, and_from, leb-true, le-leb, eqb-true, cases_Bool}
 use Rattle.words.specs.Pieces.{glued, pieces}
 use Rattle.words.specs.Texts.{is_line}
-use Rattle.words.specs.Words.{Word, words, each, within}
-use Rattle.numbering.specs.Limits.{small_product, sound_sizes}
+use Rattle.words.specs.Words.{Word, words, each}
+use Rattle.numbering.specs.Limits.{small_product}
 use Rattle.conditions.specs.Conditions.{Tree, known_tree}
-use Rattle.conditions.specs.Grammar.{Means, comparing, constant, bracket, plain, negated, one_and, more_and, one_or, more_or, Level, or_level}
-use Rattle.conditions.specs.Variables.{Var, names}
-use Rattle.reader.specs.Cases.{RuleMeans}
+use Rattle.conditions.specs.Grammar.{Means, comparing, constant, bracket, plain, negated, one_and, more_and, one_or, more_or, Level}
+use Rattle.conditions.specs.Variables.{Var}
 use Rattle.reader.specs.RuleSets.{Rule, RuleSet}
-use Rattle.reader.specs.Says.{LineIs, Each, none, more, VariableFits, VariableLine, RuleFits, BlockLine, Block, BreakLine, Says}
+use Rattle.reader.specs.Says.{Each, none, more, VariableLine, BlockLine, Block, BreakLine, Says}
 use Rattle.reader.specs.VariableLines.{product}
 use Rattle.reader.proofs.SectionFacts.{product_push}
 use Rattle.steps.specs.Atoms.{atoms_in, line_atoms, block_atoms, atoms_of}
 use Rattle.ruletext.specs.Forms.{sound_variable, sound_line, sound_blocks, well_formed}
-use Rattle.steps.specs.Meaning.{size_of, sizes}
+use Rattle.steps.specs.Meaning.{size_of}
 
 -- ── What holds of each part ──
 

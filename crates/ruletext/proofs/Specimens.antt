@@ -1,5 +1,5 @@
 -- A text, what it says, and the steps of one of its states, by computing.
-use Rattle.std.proofs.Common.{◌≡◌, ℕ, Bool, true, false, cond, not, ◌||◌, eqb, List, [], ◌∷◌, ◌++◌, length, codes, refl}
+use Rattle.std.proofs.Common.{◌≡◌, ℕ, Bool, true, cond, not, ◌||◌, eqb, List, [], ◌∷◌, ◌++◌, length, codes, refl}
 use Prim.Native.String.{String}
 use Rattle.words.specs.Reading.{got}
 use Rattle.rules.specs.Rules.{Rules}

@@ -1,10 +1,10 @@
 -- What a well-formed rule set means is finite, and fits its columns.
-use Rattle.std.proofs.Common.{◌≡◌, ℕ, ◌<◌, ◌≤◌, Bool, true, false, ◌&&◌, ◌||◌, eqb, ltb, leb, ◌⊎◌, List, [], ◌∷◌, map, length, get_or, sym, refl, ap, ◌∙◌, inl, inr, arith}
+use Rattle.std.proofs.Common.{◌≡◌, ℕ, ◌<◌, true, ◌&&◌, ◌||◌, eqb, ltb, List, length, get_or, sym, refl, ◌∙◌, inl, inr, arith}
 use lib.ListN.{length-map}
 use Rattle.std.proofs.lemmas.List.{get_or_past}
-use Rattle.std.proofs.lemmas.Bool.{and_parts, and_from, or_left, or_right, ltb-true, ltb-false, lt-ltb, eqb-true, eq-eqb, leb-true, cases_lt, cases_Bool}
-use Rattle.rules.specs.Rules.{Rules, Finite}
-use Rattle.columns.specs.Columns.{Columns, Columned, product, values, value}
+use Rattle.std.proofs.lemmas.Bool.{and_parts, and_from, or_left, or_right, ltb-true, lt-ltb, eqb-true, eq-eqb, cases_lt, cases_Bool}
+use Rattle.rules.specs.Rules.{Finite}
+use Rattle.columns.specs.Columns.{Columned, product, values, value}
 use Rattle.columns.proofs.Digits.{length_values, product_positive}
 use Rattle.numbering.specs.Limits.{sound_sizes}
 use Rattle.numbering.proofs.SizeFacts.{sound_some, sound_few, sound_ranged, sound_most, ranged_positive, ranged_at}

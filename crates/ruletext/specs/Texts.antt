@@ -1,5 +1,5 @@
 -- What the fields of a rule text stand for.
-use Rattle.std.specs.Prelude.{List, map, vec_items, Vec}
+use Rattle.std.specs.Prelude.{map, vec_items, Vec}
 use Rattle.std.specs.declared.alloc.Global.{Global}
 use Rattle.conditions.specs.Variables.{Var}
 use Rattle.conditions.specs.declared.condition.Cond.{Cond}

@@ -1,4 +1,6 @@
 //! Sheets: partitions of the states into classes, and the class structure that they form.
+#![tactic(auto)]
+
 pub mod members;
 pub mod numbering;
 pub mod sheet;

@@ -112,7 +112,7 @@ impl WholeSheet {
 }
 
 impl Sheet for WholeSheet {
-    const MOST: usize = 4096;
+    const MOST: usize = MOST_STATES;
 
     ghost capacity = { 4096 };
 

@@ -1,5 +1,5 @@
-use Rattle.std.proofs.Common.{◌≡◌, ℕ, ◌+◌, ◌*◌, ◌<◌, ◌≤◌, get_or, ap, subst, arith}
-use Rattle.numbering.proofs.SizeFacts.{Multiplying, multiplying_more, multiplying_all, too_small, too_large, too_many}
+use Rattle.std.proofs.Common.{◌*◌, ◌≤◌, get_or, ap, arith}
+use Rattle.numbering.proofs.SizeFacts.{multiplying_more, multiplying_all, too_small, too_large, too_many}
 use Rattle.numbering.proofs.number.multiplied.Goals as goal
 
 pub returns-then-d-lt2 : goal.returns-then-d-lt2

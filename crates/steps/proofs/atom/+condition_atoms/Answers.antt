@@ -1,4 +1,4 @@
-use Rattle.std.proofs.Common.{◌≡◌, ◌++◌, vec_items, sym, ap, ◌∙◌}
+use Rattle.std.proofs.Common.{◌++◌, vec_items, sym, ap, ◌∙◌}
 use Rattle.conditions.specs.Conditions.{tree}
 use Rattle.steps.specs.Atoms.{atoms_in}
 use Rattle.steps.proofs.Gathers.{both_sides}

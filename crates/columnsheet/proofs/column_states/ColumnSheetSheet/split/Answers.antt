@@ -33,19 +33,15 @@ split_all-self-requires c =
 pub invariant_of-self : goal.invariant_of-self
 invariant_of-self c =
     let x = c.args.self.now in
-    let made = c.split_all-self.ensures in (
-      omega (arith, x.long, c.split_all-self.auto.parts),
-      (
-        omega (arith, x.each, c.split_all-self.auto.counts),
-        (
-          omega (arith, x.full, c.split_all-self.auto.table),
-          (
-            all_from_lawful (count_of x.tuples) (parts_of x.tuples c.split_all-self.new.parts c.split_all-self.new.counts) (λ k h. (made.split k h).lawful),
-            (made.counted, (made.told, tt)),
-          ),
-        ),
-      ),
-    )
+    let made = c.split_all-self.ensures in
+    record {
+      long = omega (arith, x.long, c.split_all-self.auto.parts);
+      each = omega (arith, x.each, c.split_all-self.auto.counts);
+      full = omega (arith, x.full, c.split_all-self.auto.table);
+      lawful = all_from_lawful (count_of x.tuples) (parts_of x.tuples c.split_all-self.new.parts c.split_all-self.new.counts) (λ k h. (made.split k h).lawful);
+      counted = made.counted;
+      told = made.told;
+    }
 
 pub returns : goal.returns
 returns c =

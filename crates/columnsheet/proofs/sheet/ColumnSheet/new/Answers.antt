@@ -27,16 +27,12 @@ count_classes-count-requires g c = sound_from c.in-Some.tuples c.first_parts.new
 
 pub invariant_of-result : goal.invariant_of-result
 invariant_of-result g c =
-    let x = c.in-Some.tuples in (
-      c.first_parts.auto.parts,
-      (
-        c.first_parts.auto.counts,
-        (
-          c.fill_table.auto.table,
-          (
-            all_from_lawful (count_of x) (parts_of x c.first_parts.new.parts c.first_parts.new.counts) (λ k h. (c.first_parts.ensures k h).lawful),
-            (c.count_classes-count.ensures, (c.fill_table.ensures, tt)),
-          ),
-        ),
-      ),
-    )
+    let x = c.in-Some.tuples in
+    record {
+      long = c.first_parts.auto.parts;
+      each = c.first_parts.auto.counts;
+      full = c.fill_table.auto.table;
+      lawful = all_from_lawful (count_of x) (parts_of x c.first_parts.new.parts c.first_parts.new.counts) (λ k h. (c.first_parts.ensures k h).lawful);
+      counted = c.count_classes-count.ensures;
+      told = c.fill_table.ensures;
+    }

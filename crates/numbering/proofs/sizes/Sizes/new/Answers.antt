@@ -1,7 +1,7 @@
-use Rattle.std.proofs.Common.{◌≡◌, true, false, ◌&&◌, leb, length, sym, ap, ◌∙◌, subst, inl, inr, arith}
+use Rattle.std.proofs.Common.{◌≡◌, true, leb, length, sym, ap, ◌∙◌, inl, inr}
 use Rattle.std.proofs.lemmas.Bool.{and_left, and_right, and_from, le-leb, lt-leb}
 use Rattle.columns.specs.Columns.{product}
-use Rattle.numbering.specs.Limits.{sound_sizes, small_product}
+use Rattle.numbering.specs.Limits.{sound_sizes}
 use Rattle.numbering.proofs.sizes.Sizes.new.Goals as goal
 
 pub returns-then-count-lt1 : goal.returns-then-count-lt1

@@ -1,10 +1,10 @@
-use Rattle.std.proofs.Common.{◌≡◌, ℕ, ◌+◌, ◌*◌, ◌<◌, ◌≤◌, true, false, length, get_or, Some, None, sym, ap, ◌∙◌, subst, add-mul, one-mul, arith}
+use Rattle.std.proofs.Common.{◌+◌, ◌*◌, get_or, Some, sym, ap, ◌∙◌, add-mul, one-mul, arith}
 use Rattle.std.proofs.lemmas.Bool.{cond-true, cond-false}
-use Rattle.columns.specs.Columns.{fit, number, values}
+use Rattle.columns.specs.Columns.{values}
 use Rattle.columns.proofs.Digits.{values_number, fit_length}
 use Rattle.numbering.specs.Numbers.{sizes_in}
-use Rattle.numbering.proofs.DigitLoops.{Adding, adding_none, adding_more, adding_stop, adding_small, adding_all}
-use Rattle.numbering.proofs.OwnSizes.{own_few, own_most, own_below, own_size, own_range, own_product}
+use Rattle.numbering.proofs.DigitLoops.{adding_none, adding_more, adding_stop, adding_small, adding_all}
+use Rattle.numbering.proofs.OwnSizes.{own_most, own_below, own_size, own_product}
 use Rattle.numbering.proofs.sizes.Sizes.number.Goals as goal
 
 pub returns-then-given-self : goal.returns-then-given-self

@@ -1,4 +1,4 @@
-use Rattle.std.proofs.Common.{◌≡◌, ℕ, ◌+◌, ◌/◌, ◌<◌, List, length, get_or, take, sym, ap, ◌∙◌, subst, arith}
+use Rattle.std.proofs.Common.{◌≡◌, ℕ, ◌+◌, ◌/◌, ◌<◌, List, get_or, take, sym, ap, ◌∙◌, arith}
 use Rattle.numbering.specs.Numbers.{sizes_in}
 use Rattle.numbering.specs.declared.sizes.Sizes.{Sizes}
 use Rattle.numbering.proofs.DigitLoops.{Splitting, splitting_none, splitting_more, splitting_all, next_wide}

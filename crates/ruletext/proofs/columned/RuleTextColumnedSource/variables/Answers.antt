@@ -1,4 +1,4 @@
-use Rattle.std.proofs.Common.{◌≡◌, length, ap, ◌∙◌}
+use Rattle.std.proofs.Common.{length, ap, ◌∙◌}
 use Rattle.ruletext.specs.Wholes.{rule_set}
 use Rattle.ruletext.proofs.TextFacts.{columned}
 use Rattle.ruletext.proofs.columned.RuleTextColumnedSource.variables.Goals as goal
