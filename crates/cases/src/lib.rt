@@ -1,4 +1,6 @@
 //! Cases as tests: what the calls answer on small inputs and at the limits.
+#![tactic(auto)]
+
 #[cfg(test)]
 mod checks;
 #[cfg(test)]

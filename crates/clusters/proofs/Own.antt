@@ -1,5 +1,5 @@
 -- What the clusters of some variables keep, as facts about lists.
-use Rattle.std.proofs.Common.{◌≡◌, ℕ, ◌<◌, ◌≤◌, length, get_or, take, sym, refl, ap, ◌∙◌, arith, length-take}
+use Rattle.std.proofs.Common.{◌≡◌, ◌<◌, length, sym, ◌∙◌, arith, length-take}
 use Rattle.std.proofs.lemmas.List.{get_or-take}
 use Rattle.clusters.specs.Shapes.{Shape, sizes_in, partition}
 use Rattle.clusters.specs.declared.cluster.Clusters.{Clusters}

@@ -1,8 +1,8 @@
 -- Tuples that are alike, by the states in which the rest of a cluster is 0; and that alike tuples keep dead states apart from others.
-use Rattle.std.proofs.Common.{◌≡◌, ℕ, zero, suc, ◌+◌, ◌-◌, ◌<◌, ◌≤◌, Bool, true, false, eqb, ◌≢◌, ◌↔◌, List, get_or, sym, refl, ap, ◌∙◌, subst, inl, inr, arith}
+use Rattle.std.proofs.Common.{◌≡◌, ℕ, zero, suc, ◌+◌, ◌-◌, ◌<◌, ◌≤◌, Bool, eqb, ◌≢◌, ◌↔◌, List, get_or, sym, refl, ap, ◌∙◌, subst, inl, inr, arith}
 use Rattle.std.proofs.lemmas.Bool.{cases_lt, cases_eq}
 use Rattle.tuples.proofs.Grids.{Grid}
-use Rattle.columnsheet.specs.ColumnSplits.{Exchanged, Alike}
+use Rattle.columnsheet.specs.ColumnSplits.{Alike}
 
 -- the state v is dead
 abbrev pub dead : List ℕ → ℕ → Bool

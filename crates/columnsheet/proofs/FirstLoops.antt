@@ -1,9 +1,8 @@
 -- The tuples of a cluster grouped by its atoms, one after the other.
-use Rattle.std.proofs.Common.{◌≡◌, ℕ, ◌+◌, ◌<◌, ◌≤◌, Bool, true, false, ◌↔◌, List, length, get_or, replicate, sym, refl, ap, ◌∙◌, subst, arith}
+use Rattle.std.proofs.Common.{◌≡◌, ℕ, ◌+◌, ◌<◌, Bool, true, false, List, length, get_or, replicate, sym, ap, ◌∙◌, subst, arith}
 use Rattle.rules.specs.Rules.{Rules}
 use Rattle.columns.specs.Columns.{Columns, Columned, product, value}
-use Rattle.sheets.specs.Classes.{Classes, states, class}
-use Rattle.clusters.specs.Linked.{Linked, Clustered}
+use Rattle.sheets.specs.Classes.{Classes, states}
 use Rattle.clusters.specs.Linked.Linked.{alone, along}
 use Rattle.clusters.specs.Makes.{ClustersOf}
 use Rattle.clusters.specs.Shapes.{partition}

@@ -1,7 +1,6 @@
 -- Partitions of a cluster's tuples, refined test by test.
-use Rattle.std.proofs.Common.{◌≡◌, ℕ, ◌+◌, ◌<◌, ◌≤◌, Bool, true, false, ◌↔◌, List, length, get_or, sym, refl, ap, ◌∙◌, inl, inr, arith, below_more}
-use Rattle.sheets.specs.Classes.{Classes, states, class}
-use Rattle.sheets.specs.Tables.{listed}
+use Rattle.std.proofs.Common.{◌≡◌, ℕ, ◌+◌, ◌<◌, ◌≤◌, Bool, false, ◌↔◌, List, length, get_or, sym, ◌∙◌, arith, below_more}
+use Rattle.sheets.specs.Classes.{Classes, class}
 use Rattle.sheets.proofs.Counts.{count_most}
 use Rattle.columnsheet.specs.Groups.{Grouped, Refined}
 

@@ -1,10 +1,10 @@
 -- The classes of states that the classes of their tuples make.
-use Rattle.std.proofs.Common.{◌≡◌, ℕ, zero, suc, ◌+◌, ◌-◌, ◌<◌, ◌≤◌, true, ltb, ◌≢◌, ◌↔◌, List, [], ◌∷◌, map, length, get_or, sym, refl, ap, ◌∙◌, subst, inl, inr, arith, below_more}
+use Rattle.std.proofs.Common.{◌≡◌, ℕ, zero, suc, ◌+◌, ◌-◌, ◌<◌, ◌≤◌, true, ◌↔◌, List, [], ◌∷◌, map, length, get_or, sym, refl, ap, ◌∙◌, subst, inl, inr, arith}
 use Rattle.std.specs.List.{range_with_len}
 use Rattle.std.proofs.lemmas.List.FromFn.{length-map-range_with_len, get_or-map-range_with_len}
 use Rattle.std.proofs.lemmas.List.{ext_get_or}
 use Rattle.std.proofs.lemmas.Bool.{and_from, lt-ltb, cases_lt}
-use Rattle.columns.specs.Columns.{product, number, values, fit}
+use Rattle.columns.specs.Columns.{number, values, fit}
 use Rattle.columns.proofs.Digits.{Positive, number_below, values_number, number_values, values_fit, fit_at, length_values}
 use Rattle.sheets.specs.Classes.{Classes, states, class, Lawful}
 use Rattle.tuples.proofs.Grids.{Grid}

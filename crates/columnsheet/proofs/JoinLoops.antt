@@ -1,5 +1,5 @@
 -- Class numbers and counts put together cluster by cluster.
-use Rattle.std.proofs.Common.{◌≡◌, ℕ, ◌+◌, ◌*◌, ◌<◌, ◌≤◌, min, true, cond, ◌&&◌, ltb, List, length, get_or, drop, sym, refl, ap, ◌∙◌, subst, mul_assoc, add-mul, mul-le-mul_left, one-mul, mul-one, arith}
+use Rattle.std.proofs.Common.{◌≡◌, ℕ, ◌+◌, ◌*◌, ◌<◌, ◌≤◌, min, cond, ◌&&◌, ltb, List, length, get_or, drop, sym, ap, ◌∙◌, subst, mul_assoc, add-mul, mul-le-mul_left, one-mul, mul-one, arith}
 use Rattle.std.proofs.lemmas.List.{at_drop_more, at_drop_all}
 use Rattle.std.proofs.lemmas.Bool.{and_from, lt-ltb, cond-true}
 use Rattle.columns.specs.Columns.{product}
@@ -12,7 +12,7 @@ use Rattle.tuples.specs.Tuples.{width, tuple, part, tuples_before}
 use Rattle.tuples.specs.declared.tuple.Tuples.{Tuples}
 use Rattle.tuples.proofs.Widths.{before_more, positive_drop}
 use Rattle.columnsheet.specs.Joins.{counts_of, cluster_classes}
-use Rattle.columnsheet.specs.Kept.{Sound, parts_of, class_number, class_count}
+use Rattle.columnsheet.specs.Kept.{Sound, parts_of, class_number}
 use Rattle.columnsheet.proofs.JoinFacts.{over_length, over_at, counts_positive}
 use Rattle.columnsheet.proofs.OwnTuples.{own_grid, own_some, own_end, own_lawful, own_sized, own_class, own_count}
 

@@ -1,8 +1,8 @@
 -- What a column sheet's tables keep, as facts about partitions.
-use Rattle.std.proofs.Common.{◌≡◌, ℕ, ◌+◌, ◌-◌, ◌<◌, ◌≤◌, true, eqb, ltb, List, length, get_or, sym, refl, ap, ◌∙◌, arith}
+use Rattle.std.proofs.Common.{◌≡◌, ℕ, ◌+◌, ◌-◌, ◌<◌, ◌≤◌, true, eqb, ltb, List, length, get_or, ◌∙◌, arith}
 use Rattle.std.proofs.lemmas.List.Edits.{length-between, get_or-between}
 use Rattle.std.proofs.lemmas.Bool.{and_parts, and_from, ltb-true, lt-ltb, eqb-true, eq-eqb}
-use Rattle.columns.specs.Columns.{product, number, each_below}
+use Rattle.columns.specs.Columns.{product, each_below}
 use Rattle.columns.proofs.Digits.{product_positive}
 use Rattle.columns.proofs.EachBelow.{each_below_at, each_below_from}
 use Rattle.sheets.specs.Classes.{Classes, states, class, Lawful}

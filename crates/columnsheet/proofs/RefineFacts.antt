@@ -1,7 +1,6 @@
 -- Class numbers refined by one bit each.
-use Rattle.std.proofs.Common.{◌≡◌, ℕ, ◌+◌, ◌*◌, ◌<◌, ◌≤◌, Bool, true, false, ◌↔◌, List, length, get_or, set, sym, refl, ap, ◌∙◌, inl, inr, arith, below_more}
+use Rattle.std.proofs.Common.{◌≡◌, ℕ, ◌+◌, ◌*◌, ◌<◌, ◌≤◌, Bool, true, false, List, length, get_or, set, sym, refl, ◌∙◌, arith, below_more}
 use Rattle.std.proofs.lemmas.List.{get_or-set_same, get_or-set_other}
-use Rattle.sheets.specs.Classes.{Classes, states, class, Lawful}
 use Rattle.sheets.specs.Numbering.{bit, Numberable, Renumbered}
 use Rattle.sheets.specs.Tables.{listed}
 use Rattle.columnsheet.specs.Groups.{Refined}

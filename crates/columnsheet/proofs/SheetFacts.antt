@@ -4,18 +4,17 @@ use Rattle.std.specs.List.{range_with_len}
 use Rattle.std.proofs.lemmas.List.FromFn.{fill_by_all}
 use Rattle.std.proofs.lemmas.List.{get_or-take, length-take-le}
 use Rattle.std.proofs.lemmas.Bool.{cond-true, cond-false, lt-ltb, le-ltb}
-use Rattle.columns.specs.Columns.{Columns, product, number}
+use Rattle.columns.specs.Columns.{Columns, product}
 use Rattle.sheets.specs.Classes.{Classes, states, class, class_at, Lawful}
-use Rattle.sheets.specs.Splits.{Splittable, SplitInto}
+use Rattle.sheets.specs.Splits.{SplitInto}
 use Rattle.sheets.specs.Tables.{listed}
-use Rattle.clusters.specs.Linked.{Clustered}
 use Rattle.clusters.specs.Makes.{ClustersOf}
 use Rattle.clusters.specs.Shapes.{partition}
 use Rattle.tuples.specs.Meaning.{sizes_of, clusters_of, count_of}
-use Rattle.tuples.specs.Tuples.{width, tuple, part, tuples_before}
+use Rattle.tuples.specs.Tuples.{width, tuple, tuples_before}
 use Rattle.tuples.specs.declared.tuple.Tuples.{Tuples}
 use Rattle.columnsheet.specs.ColumnSplits.{SplitCluster, SplitColumns}
-use Rattle.columnsheet.specs.Firsts.{Agree, FirstCluster, FirstColumns}
+use Rattle.columnsheet.specs.Firsts.{Agree, FirstColumns}
 use Rattle.columnsheet.specs.Groups.{Grouped}
 use Rattle.columnsheet.specs.Joins.{joined}
 use Rattle.columnsheet.specs.Kept.{Sound, Grouping, parts_of, class_number}

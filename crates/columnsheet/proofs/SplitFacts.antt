@@ -1,11 +1,9 @@
 -- A split of the column sheet keeps what a split has to keep.
-use Rattle.std.proofs.Common.{◌≡◌, ℕ, ◌<◌, ◌≤◌, eqb, ◌≢◌, List, length, get_or, sym, ◌∙◌, subst, arith}
+use Rattle.std.proofs.Common.{◌≡◌, ℕ, ◌<◌, eqb, List, get_or, sym, ◌∙◌, subst, arith}
 use Rattle.std.proofs.lemmas.Bool.{eq-eqb, ne_eqb, both_ways}
 use Rattle.columns.specs.Columns.{product}
-use Rattle.columns.proofs.Digits.{product_positive}
-use Rattle.sheets.specs.Classes.{Classes, states, class, Lawful}
+use Rattle.sheets.specs.Classes.{Classes, states, Lawful}
 use Rattle.sheets.specs.Splits.{SplitInto}
-use Rattle.clusters.specs.Shapes.{Shape}
 use Rattle.tuples.specs.Tuples.{width, tuple, part}
 use Rattle.tuples.proofs.Grids.{Grid}
 use Rattle.columnsheet.specs.Joins.{joined}

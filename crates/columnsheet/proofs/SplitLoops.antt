@@ -1,5 +1,5 @@
 -- The tuples of a cluster parted by dead states, one rest after the other.
-use Rattle.std.proofs.Common.{◌≡◌, ℕ, ◌+◌, ◌<◌, ◌≤◌, Bool, true, false, eqb, ◌↔◌, List, length, get_or, replicate, sym, refl, ap, ◌∙◌, subst, inl, inr, arith}
+use Rattle.std.proofs.Common.{◌≡◌, ℕ, ◌+◌, ◌<◌, ◌≤◌, Bool, false, ◌↔◌, List, length, get_or, replicate, sym, ◌∙◌, arith}
 use Rattle.std.proofs.lemmas.List.{get_or-replicate}
 use Rattle.columns.specs.Columns.{product}
 use Rattle.sheets.specs.Classes.{Classes, class}

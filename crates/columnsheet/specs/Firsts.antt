@@ -1,5 +1,5 @@
 -- The column sheet at first: tuples that agree on all atoms of their cluster form a class.
-use Rattle.std.specs.Prelude.{◌≡◌, ℕ, ◌<◌, ◌≤◌, true, Ok, Err, Result}
+use Rattle.std.specs.Prelude.{◌≡◌, ℕ, ◌<◌, ◌≤◌, true}
 use Rattle.columns.specs.Columns.{Columns, product}
 use Rattle.sheets.specs.Classes.{Classes, states, class}
 use Rattle.clusters.specs.Linked.{Clustered}

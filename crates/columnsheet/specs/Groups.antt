@@ -1,5 +1,5 @@
 -- Partitions of the tuples of one cluster.
-use Rattle.std.specs.Prelude.{◌≡◌, ℕ, ◌+◌, ◌-◌, ◌<◌, Bool, false, ◌↔◌, List, length, slice_index, slice_index_or, slice_range}
+use Rattle.std.specs.Prelude.{◌≡◌, ℕ, ◌+◌, ◌<◌, Bool, false, ◌↔◌, List, length, slice_index, slice_index_or, slice_range}
 use Rattle.sheets.specs.Classes.{Classes, states, class, Lawful}
 use Rattle.sheets.specs.Tables.{listed}
 use Rattle.sheets.specs.Whole.{Numbered}

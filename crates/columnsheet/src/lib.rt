@@ -1,4 +1,6 @@
 //! The column sheet: classes by which comparisons hold, cluster by cluster.
+#![tactic(auto)]
+
 pub mod column_states;
 pub mod fault;
 mod firsts;

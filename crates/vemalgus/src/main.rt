@@ -1,4 +1,6 @@
 //! Reads a rule text from standard input, settles it by whole states, and prints the verdict or the refusal.
+#![tactic(auto)]
+
 mod input;
 mod output;
 

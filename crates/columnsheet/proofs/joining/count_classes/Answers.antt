@@ -1,8 +1,8 @@
-use Rattle.std.proofs.Common.{◌≡◌, ◌+◌, ◌*◌, drop, sym, ap, ◌∙◌, subst, arith}
+use Rattle.std.proofs.Common.{◌+◌, ◌*◌, drop, sym, ap, ◌∙◌, arith}
 use Rattle.columns.specs.Columns.{product}
 use Rattle.tuples.specs.Meaning.{count_of}
 use Rattle.columnsheet.specs.Joins.{counts_of}
-use Rattle.columnsheet.specs.Kept.{parts_of, class_count}
+use Rattle.columnsheet.specs.Kept.{parts_of}
 use Rattle.columnsheet.proofs.JoinLoops.{product_more, product_small, product_all, counts_length, counts_at, sound_positive}
 use Rattle.columnsheet.proofs.OwnTuples.{own_count}
 use Rattle.columnsheet.proofs.joining.count_classes.Goals as goal

@@ -1,4 +1,3 @@
-use Rattle.std.proofs.Common.{arith}
 use Rattle.columnsheet.proofs.RefineFacts.{refined}
 use Rattle.columnsheet.proofs.refining.refine.Goals as goal
 

@@ -1,4 +1,4 @@
-use Rattle.std.proofs.Common.{◌≡◌, ℕ, ◌+◌, ◌-◌, ◌<◌, get_or, sym, ap, ◌∙◌, subst, arith}
+use Rattle.std.proofs.Common.{◌≡◌, ℕ, ◌+◌, ◌<◌, arith}
 use Rattle.columns.specs.Columns.{product}
 use Rattle.tuples.specs.Meaning.{sizes_of, clusters_of, count_of}
 use Rattle.tuples.specs.Tables.{LowestTuple}

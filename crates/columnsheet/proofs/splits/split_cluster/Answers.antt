@@ -1,4 +1,4 @@
-use Rattle.std.proofs.Common.{◌≡◌, ◌<◌, get_or, sym, ◌∙◌, arith}
+use Rattle.std.proofs.Common.{◌<◌, get_or, sym, ◌∙◌, arith}
 use Rattle.columns.specs.Columns.{product}
 use Rattle.sheets.specs.Tables.{listed}
 use Rattle.tuples.specs.Meaning.{sizes_of}

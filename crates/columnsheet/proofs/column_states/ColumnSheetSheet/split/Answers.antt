@@ -1,9 +1,8 @@
-use Rattle.std.proofs.Common.{◌≡◌, ◌≤◌, false, length, take, sym, refl, ap, ◌∙◌, subst, arith}
+use Rattle.std.proofs.Common.{◌≡◌, false, length, take, sym, refl, ap, ◌∙◌, subst, arith}
 use Rattle.std.proofs.lemmas.Bool.{both_ways}
-use Rattle.columns.specs.Columns.{product}
 use Rattle.sheets.specs.Splits.{Splittable}
 use Rattle.sheets.specs.Tables.{listed}
-use Rattle.tuples.specs.Meaning.{sizes_of, count_of}
+use Rattle.tuples.specs.Meaning.{count_of}
 use Rattle.columnsheet.specs.Kept.{parts_of}
 use Rattle.columnsheet.specs.Sheets.{sheet_classes}
 use Rattle.columnsheet.proofs.OwnTuples.{own_most, all_from_lawful}

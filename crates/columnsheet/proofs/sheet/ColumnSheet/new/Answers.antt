@@ -1,11 +1,8 @@
-use Rattle.std.proofs.Common.{◌≡◌, ◌<◌, ◌≤◌, length, replicate, sym, refl, ap, ◌∙◌, subst, arith}
+use Rattle.std.proofs.Common.{sym, refl, subst}
 use Rattle.clusters.specs.Makes.{ClustersOf}
-use Rattle.clusters.specs.Shapes.{partition}
-use Rattle.tuples.specs.Meaning.{sizes_of, clusters_of, count_of}
-use Rattle.tuples.specs.Tuples.{tuples_before}
+use Rattle.tuples.specs.Meaning.{count_of}
 use Rattle.columnsheet.proofs.OwnTuples.{own_most, sound_from, all_from_lawful}
 use Rattle.columnsheet.specs.Kept.{parts_of}
-use Rattle.columnsheet.proofs.SheetFacts.{first_columns}
 use Rattle.columnsheet.proofs.sheet.ColumnSheet.new.Goals as goal
 
 pub first_parts-requires : goal.first_parts-requires
