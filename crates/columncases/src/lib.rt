@@ -1,6 +1,6 @@
-//! The column sheet: its classes, its checks and its limit, and the answers that follow.
-use answer::answer::Answer;
-use answer::answering::answer;
+//! The column sheet as tests: its classes, its checks and its limit.
+#![tactic(auto)]
+
 use checking::calls::{begin, report, search, trace};
 use checking::settle::settle;
 use checking::stage::{Followed, Report, Searched, Verdict};
@@ -113,17 +113,5 @@ fn a_cluster_of_1024_tuples_is_the_largest(rt: HostRuntime) -> Result<(), Fail> 
             assert_eq!(rt; fault.refusal(), demanded);
             Ok(())
         },
-    }
-}
-
-#[test]
-fn a_cluster_that_is_too_large_is_settled_by_whole_states(rt: HostRuntime) -> Result<(), Fail> {
-    let text = linked(rt.alloc(), b"5")?;
-    match answer(rt.alloc(), &text)? {
-        Answer::Verdict(bytes) => {
-            assert!(rt; bytes.starts_with(b"holds 0 splits 0 classes 2\nclass 0 states",));
-            Ok(())
-        },
-        Answer::Refused(_) => Err(Fail::new("refused")),
     }
 }

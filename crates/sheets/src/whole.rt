@@ -27,6 +27,9 @@ pub struct WholeSheet {
 /// No class has this number, since there are at most 4,096.
 pub(crate) const UNNUMBERED: u16 = 4096;
 
+/// The highest mark: that of a bad state.
+const MOST_MARK: u8 = 2;
+
 /// Whether the marks split the class.
 pub(crate) fn splittable(table: &[u16], n: usize, count: u16, class: u16, marks: &[u8]) -> bool
     requires { n ≤ length table.now }
@@ -39,7 +42,7 @@ pub(crate) fn splittable(table: &[u16], n: usize, count: u16, class: u16, marks:
     let mut bad = false;
     for s in 0..n {
         let mark = marks[s];
-        if mark > 2 {
+        if mark > MOST_MARK {
             return false;
         }
         if mark > 0 && table[s] != class {

@@ -6,13 +6,13 @@ use Rattle.sheets.proofs.whole.splittable.Goals.{else-mark-gt0-via-then-mark-gt0
 pub loop-s-init : goal.loop-s-init
 loop-s-init c = scanning_none c.args.class c.args.table.now c.args.marks.now
 
-pub returns-then-mark-gt2 : goal.returns-then-mark-gt2
-returns-then-mark-gt2 c =
-    refused_small c.args.count c.args.n c.args.class c.args.table.now c.args.marks.now c.requires c.loop-s.s c.loop-s-test.true c.if-mark-gt2.true
+pub returns-then-mark-gt-MOST_MARK : goal.returns-then-mark-gt-MOST_MARK
+returns-then-mark-gt-MOST_MARK c =
+    refused_small c.args.count c.args.n c.args.class c.args.table.now c.args.marks.now c.requires c.loop-s.s c.loop-s-test.true c.if-mark-gt-MOST_MARK.true
 
 pub loop-s-preserved : goal.loop-s-preserved
 loop-s-preserved c =
-    scanning_more c.args.class c.args.table.now c.args.marks.now c.loop-s.s c.loop-s.dead c.loop-s.bad c.if-mark-gt2.false
+    scanning_more c.args.class c.args.table.now c.args.marks.now c.loop-s.s c.loop-s.dead c.loop-s.bad c.if-mark-gt-MOST_MARK.false
     (λ ne.
     elim c.else-mark-gt0.branch [
       | else-mark-gt0-via-then-mark-gt0+else-table-s w ↦ w.if-table-s.false
