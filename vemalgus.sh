@@ -2,7 +2,9 @@
 # Checks a rule text: ./vemalgus.sh FILE, or a text on standard input. The program is proved and built first where that has not been done.
 set -euo pipefail
 here=$(cd "$(dirname "$0")" && pwd)
-if [ ! -x "$here/target/bin/vemalgus" ]; then
-    (cd "$here" && rt check vemalgus >&2)
+program=$here/crates/vemalgus/out/vemalgus
+if [ ! -x "$program" ]; then
+    # this builds it and runs it once, on the text beside it
+    (cd "$here/crates/vemalgus" && rt run < stdin >&2)
 fi
-exec "$here/target/bin/vemalgus" < "${1:-/dev/stdin}"
+exec "$program" < "${1:-/dev/stdin}"

@@ -12,6 +12,7 @@ use output::{print_refusal, print_report, print_state};
 use rules::source::RuleSource;
 use ruletext::text::RuleText;
 use sheets::whole::WholeSheet;
+use std::process::ExitCode;
 
 /// Settles the rules of a text, and prints the verdict and the run.
 fn settle_text(rt: &HostRuntime, text: &RuleText) -> anyhow::Result<()> {
@@ -47,10 +48,10 @@ fn run(rt: &HostRuntime) -> anyhow::Result<bool> {
     }
 }
 
-fn main(rt: HostRuntime) -> anyhow::Result<()> {
-    match run(&rt) {
-        Ok(true) => Ok(()),
-        Ok(false) => Err(anyhow!("refused")),
-        Err(error) => Err(error),
-    }
+fn main(rt: HostRuntime) -> anyhow::Result<ExitCode> {
+    Ok(if run(&rt)? {
+        ExitCode::SUCCESS
+    } else {
+        ExitCode::FAILURE
+    })
 }
