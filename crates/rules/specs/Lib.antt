@@ -3,3 +3,4 @@ pub mod Runs
 pub mod Next
 pub mod Refusals
 pub mod Lists
+pub mod Walks

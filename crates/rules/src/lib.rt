@@ -4,4 +4,5 @@
 pub mod list;
 pub mod refusal;
 pub mod source;
+pub mod successors;
 pub mod transition;
