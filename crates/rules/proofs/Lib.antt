@@ -1,2 +1,3 @@
 pub mod NextFacts
 pub mod ListFacts
+pub mod Lowest
