@@ -201,7 +201,7 @@ fn a_sheet_of_another_size_is_refused(rt: HostRuntime) -> Result<(), Fail> {
         &mut lent.scratch,
     );
     assert_eq!(rt; said, Err(CheckFault::SizesDiffer));
-    assert_eq!(rt; CheckFault::SizesDiffer.refusal().number, 15);
+    assert_eq!(rt; Refusal::from(CheckFault::SizesDiffer).number, 15);
     assert_eq!(rt; lent.path, [9; 4]);
     Ok(())
 }
@@ -224,7 +224,7 @@ fn a_tampered_path_is_refused_and_the_check_goes_on_after(rt: HostRuntime) -> Re
         return Err(Fail::new("the trace was accepted"));
     };
     assert_eq!(rt; back.fault, CheckFault::Trace(TraceFault::NoSuspectRun));
-    assert_eq!(rt; back.fault.refusal().number, 17);
+    assert_eq!(rt; Refusal::from(back.fault).number, 17);
     assert_eq!(rt; lent.path, [1, 0, 0, 0]);
     assert_eq!(rt; lent.marks, [0; 4]);
     lent.path = [0, 1, 0, 0];
@@ -262,7 +262,7 @@ fn tampered_marks_are_refused_and_the_sheet_is_left(rt: HostRuntime) -> Result<(
         return Err(Fail::new("the split was accepted"));
     };
     assert_eq!(rt; back.fault, CheckFault::Sheet(SheetFault::BadMarks));
-    assert_eq!(rt; back.fault.refusal().number, 18);
+    assert_eq!(rt; Refusal::from(back.fault).number, 18);
     assert_eq!(rt; lent.path, [0, 1, 0, 0]);
     assert_eq!(rt; lent.marks, [1, 2, 0, 2]);
     assert_eq!(rt; sheet.count(), 2);

@@ -54,8 +54,8 @@ fn a_fault_in_figures(rt: HostRuntime) {
         layer: 3,
         place: 7,
     };
-    assert_eq!(rt; ListFault::BadList.refusal(), header);
-    assert_eq!(rt; ListFault::BadTransition(7).refusal(), transition);
+    assert_eq!(rt; Refusal::from(ListFault::BadList), header);
+    assert_eq!(rt; Refusal::from(ListFault::BadTransition(7)), transition);
 }
 
 #[test]

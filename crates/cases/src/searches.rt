@@ -91,6 +91,6 @@ fn areas_one_too_short_are_refused_and_kept(rt: HostRuntime) -> Result<(), Fail>
         layer: 4,
         place: 0,
     };
-    assert_eq!(rt; AreaFault::TooShort.refusal(), figures);
+    assert_eq!(rt; Refusal::from(AreaFault::TooShort), figures);
     Ok(())
 }

@@ -36,7 +36,7 @@ fn refused(
     match RuleText::read(heap, text) {
         Ok(_) => Err(Fail::new("the text is read")),
         Err(fault) => {
-            assert_eq!(rt; fault.refusal(), demanded);
+            assert_eq!(rt; Refusal::from(fault), demanded);
             Ok(())
         },
     }

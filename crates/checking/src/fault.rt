@@ -21,20 +21,20 @@ pub enum CheckFault {
     Sheet(SheetFault),
 }
 
-impl CheckFault {
-    /// The refusal in figures.
-    pub fn refusal(&self) -> Refusal
-        ensures { result ≡ check_refusal self.now }
-    {
-        match self {
+/// The fault in figures.
+impl From<CheckFault> for Refusal {
+    ghost from_gives = { λ fault r. r ≡ check_refusal fault };
+
+    fn from(fault: CheckFault) -> Refusal {
+        match fault {
             CheckFault::SizesDiffer => Refusal {
                 number: 15,
                 layer: 4,
                 place: 0,
             },
-            CheckFault::Area(fault) => fault.refusal(),
-            CheckFault::Trace(fault) => fault.refusal(),
-            CheckFault::Sheet(fault) => fault.refusal(),
+            CheckFault::Area(fault) => Refusal::from(fault),
+            CheckFault::Trace(fault) => Refusal::from(fault),
+            CheckFault::Sheet(fault) => Refusal::from(fault),
         }
     }
 }

@@ -110,7 +110,7 @@ fn a_cluster_of_1024_tuples_is_the_largest(rt: HostRuntime) -> Result<(), Fail> 
     match ColumnSheet::new(&larger) {
         Ok(_) => Err(Fail::new("a sheet of 1,280 tuples")),
         Err(fault) => {
-            assert_eq!(rt; fault.refusal(), demanded);
+            assert_eq!(rt; Refusal::from(fault), demanded);
             Ok(())
         },
     }

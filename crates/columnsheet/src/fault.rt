@@ -11,12 +11,12 @@ pub enum ColumnFault {
     TooManyTuples,
 }
 
-impl ColumnFault {
-    /// The refusal in figures.
-    pub fn refusal(&self) -> Refusal
-        ensures { result ≡ column_refusal self.now }
-    {
-        match self {
+/// The fault in figures.
+impl From<ColumnFault> for Refusal {
+    ghost from_gives = { λ fault r. r ≡ column_refusal fault };
+
+    fn from(fault: ColumnFault) -> Refusal {
+        match fault {
             ColumnFault::TooManyTuples => Refusal {
                 number: 14,
                 layer: 3,

@@ -64,42 +64,42 @@ impl<T: Drop> From<AllocFailed<T>> for ReadFault {
     }
 }
 
-impl ReadFault {
-    /// The fault in figures.
-    pub fn refusal(&self) -> Refusal
-        ensures { result ≡ read_refusal self.now }
-    {
-        match self {
-            ReadFault::Word(fault) => fault.refusal(),
+/// The fault in figures.
+impl From<ReadFault> for Refusal {
+    ghost from_gives = { λ fault r. r ≡ read_refusal fault };
+
+    fn from(fault: ReadFault) -> Refusal {
+        match fault {
+            ReadFault::Word(fault) => Refusal::from(fault),
             ReadFault::Limit(line) => Refusal {
                 number: 5,
                 layer: 2,
-                place: *line,
+                place: line,
             },
             ReadFault::Twice(line) => Refusal {
                 number: 6,
                 layer: 2,
-                place: *line,
+                place: line,
             },
             ReadFault::Undeclared(line) => Refusal {
                 number: 7,
                 layer: 2,
-                place: *line,
+                place: line,
             },
             ReadFault::Value(line) => Refusal {
                 number: 8,
                 layer: 2,
-                place: *line,
+                place: line,
             },
             ReadFault::Larger(line) => Refusal {
                 number: 9,
                 layer: 2,
-                place: *line,
+                place: line,
             },
             ReadFault::Product(line) => Refusal {
                 number: 10,
                 layer: 2,
-                place: *line,
+                place: line,
             },
             ReadFault::Memory => Refusal {
                 number: 20,

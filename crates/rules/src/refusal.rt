@@ -19,12 +19,12 @@ pub enum ListFault {
     BadTransition(usize),
 }
 
-impl ListFault {
-    /// The fault in figures.
-    pub fn refusal(&self) -> Refusal
-        ensures { result ≡ list_refusal self.now }
-    {
-        match self {
+/// The fault in figures.
+impl From<ListFault> for Refusal {
+    ghost from_gives = { λ fault r. r ≡ list_refusal fault };
+
+    fn from(fault: ListFault) -> Refusal {
+        match fault {
             ListFault::BadList => Refusal {
                 number: 12,
                 layer: 3,
@@ -33,7 +33,7 @@ impl ListFault {
             ListFault::BadTransition(i) => Refusal {
                 number: 13,
                 layer: 3,
-                place: *i,
+                place: i,
             },
         }
     }

@@ -13,12 +13,12 @@ pub enum SheetFault {
     BadMarks,
 }
 
-impl SheetFault {
-    /// The refusal in figures.
-    pub fn refusal(&self) -> Refusal
-        ensures { result ≡ sheet_refusal self.now }
-    {
-        match self {
+/// The fault in figures.
+impl From<SheetFault> for Refusal {
+    ghost from_gives = { λ fault r. r ≡ sheet_refusal fault };
+
+    fn from(fault: SheetFault) -> Refusal {
+        match fault {
             SheetFault::BadMarks => Refusal {
                 number: 18,
                 layer: 3,

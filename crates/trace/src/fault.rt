@@ -26,18 +26,18 @@ pub enum TraceFault {
     NoSuspectRun,
 }
 
-impl TraceFault {
-    /// The refusal in figures.
-    pub fn refusal(&self) -> Refusal
-        ensures { result ≡ trace_refusal self.now }
-    {
-        match self {
+/// The fault in figures.
+impl From<TraceFault> for Refusal {
+    ghost from_gives = { λ fault r. r ≡ trace_refusal fault };
+
+    fn from(fault: TraceFault) -> Refusal {
+        match fault {
             TraceFault::SizesDiffer => Refusal {
                 number: 15,
                 layer: 4,
                 place: 0,
             },
-            TraceFault::Area(fault) => fault.refusal(),
+            TraceFault::Area(fault) => Refusal::from(fault),
             TraceFault::NoSuspectRun => Refusal {
                 number: 17,
                 layer: 4,

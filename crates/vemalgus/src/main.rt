@@ -42,7 +42,7 @@ fn run(rt: &HostRuntime) -> anyhow::Result<bool> {
             Ok(true)
         }
         Err(fault) => {
-            print_refusal(rt, fault.refusal())?;
+            print_refusal(rt, Refusal::from(fault))?;
             Ok(false)
         }
     }

@@ -19,12 +19,12 @@ pub enum WordFault {
     Trailing(usize),
 }
 
-impl WordFault {
-    /// The fault in figures.
-    pub fn refusal(&self) -> Refusal
-        ensures { result ≡ word_refusal self.now }
-    {
-        match self {
+/// The fault in figures.
+impl From<WordFault> for Refusal {
+    ghost from_gives = { λ fault r. r ≡ word_refusal fault };
+
+    fn from(fault: WordFault) -> Refusal {
+        match fault {
             WordFault::Text => Refusal {
                 number: 1,
                 layer: 1,
@@ -33,22 +33,22 @@ impl WordFault {
             WordFault::Missing(line) => Refusal {
                 number: 2,
                 layer: 1,
-                place: *line,
+                place: line,
             },
             WordFault::Spacing(line) => Refusal {
                 number: 3,
                 layer: 1,
-                place: *line,
+                place: line,
             },
             WordFault::Form(line) => Refusal {
                 number: 4,
                 layer: 1,
-                place: *line,
+                place: line,
             },
             WordFault::Trailing(line) => Refusal {
                 number: 11,
                 layer: 1,
-                place: *line,
+                place: line,
             },
         }
     }
