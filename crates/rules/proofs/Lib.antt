@@ -1,3 +1,4 @@
 pub mod NextFacts
 pub mod ListFacts
 pub mod Lowest
+pub mod Walks

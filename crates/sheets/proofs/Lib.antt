@@ -1,14 +1,13 @@
 pub mod Any
+pub mod AnyWalk
 pub mod Pigeons
 pub mod Counts
 pub mod ClassRuns
 pub mod Structures
 pub mod Tables
 pub mod Partitions
-pub mod Places
 pub mod Nexts
 mod Links
-mod Scans
 mod Ranks
 mod Marks
 pub mod WholeSplits

@@ -1,48 +1,55 @@
 -- Linking the places of each number from the last to the first.
-use Rattle.std.proofs.Common.{◌≡◌, ℕ, ◌+◌, ◌<◌, ◌≤◌, List, length, get_or, take, drop, set, sym, ap, ◌∙◌, inl, inr, arith}
-use Rattle.std.proofs.lemmas.Bool.{cases_eq}
-use Rattle.std.proofs.lemmas.List.{get_or-set_same, get_or-set_other, length-set, drop_more, drop_all, get_or-take, length-take-le}
-use Rattle.sheets.specs.Links.{Linked}
-use Rattle.sheets.specs.Places.{place}
-use Rattle.sheets.proofs.Places.{place_none, place_here, place_later}
+use Rattle.std.proofs.Common.{◌≡◌, ℕ, ◌+◌, ◌<◌, ◌≤◌, true, List, length, get_or, take, drop, set, Some, None, Option, sym, ap, ◌∙◌, subst, inl, inr, arith}
+use Rattle.std.proofs.lemmas.Bool.{cases_eq, and_parts, and_from, ltb-true, eqb-true, lt-ltb, eq-eqb}
+use Rattle.std.proofs.lemmas.List.{get_or-set_same, get_or-set_other, length-set, get_or-take, length-take-le}
+use Rattle.rules.specs.Next.{LowestFrom}
+use Rattle.sheets.specs.Links.{stands, Linked}
 
-pub link_none : (xs first after : List ℕ) (n : ℕ) → length xs ≡ n → ((k : ℕ) → k < length first → get_or first k 0 ≡ n) → Linked xs n first after
+stands_below : (xs : List ℕ) (k i : ℕ) → stands xs k i ≡ true → i < length xs
+stands_below xs k i e = ltb-true i (length xs) (and_parts _ _ e).0
+
+stands_at : (xs : List ℕ) (k i : ℕ) → stands xs k i ≡ true → get_or xs i 0 ≡ k
+stands_at xs k i e = eqb-true (get_or xs i 0) k (and_parts _ _ e).1
+
+-- where k does not stand at i, its lowest place from i on is the one from i + 1 on
+lowest_down : (p : ℕ → _) (i : ℕ) (o : Option ℕ) → (p i ≡ true → ⊥) → LowestFrom p (i + 1) o → LowestFrom p i o
+lowest_down p i None not low = λ v h e.
+    elim (cases_eq v i) [ inl s ↦ not (subst (λ w. p w ≡ true) s e) | inr d ↦ low v (omega arith) e ]
+lowest_down p i (Some t) not low =
+    (omega (arith, low.0), low.1, λ v h e. elim (cases_eq v i) [ inl s ↦ absurd (not (subst (λ w. p w ≡ true) s e)) | inr d ↦ low.2 v (omega arith) e ])
+
+pub link_none : (xs : List ℕ) (first after : List (Option ℕ)) (n : ℕ) → length xs ≡ n → ((k : ℕ) → k < length first → get_or first k None ≡ None) → Linked xs n first after
 link_none xs first after n e none = record {
-  firsts = λ k h. omega (arith, none k h, ap (place k) (drop_all n xs (omega arith)), place_none k);
+  firsts = λ k h. subst (LowestFrom (stands xs k) n) (sym (none k h)) (λ v l is. let b = stands_below xs k v is in absurd (omega arith));
   afters = λ s h l. absurd (omega arith);
 }
 
 -- one place more, at which k stands
-pub link_more : (xs first after : List ℕ) (i k : ℕ) → get_or xs i 0 ≡ k → i < length xs → i < length after → k < length first → Linked xs (i + 1) first after
-    → Linked xs i (set first k i) (set after i (get_or first k 0))
+pub link_more : (xs : List ℕ) (first after : List (Option ℕ)) (i k : ℕ) → get_or xs i 0 ≡ k → i < length xs → i < length after → k < length first → Linked xs (i + 1) first after
+    → Linked xs i (set first k (Some i)) (set after i (get_or first k None))
 link_more xs first after i k at within room known g =
-    let more : (l : ℕ) → place l (drop i xs) ≡ place l _ = λ l. ap (place l) (drop_more xs i 0 within) in
     record {
       firsts = λ l h.
           elim (cases_eq l k) [
-            | inl e ↦ omega (arith, ap (λ j. get_or (set first k i) j 0) e, get_or-set_same first k i 0 known, more l, place_here l (get_or xs i 0) (drop (i + 1) xs) (at ∙ sym e))
-            | inr e ↦ omega (arith, get_or-set_other first k l i 0 e, g.firsts l (omega (arith, length-set first k i)), more l, place_later l (get_or xs i 0) (drop (i + 1) xs) (λ z. e (sym z ∙ at)))
+            | inl e ↦
+                subst (LowestFrom (stands xs l) i) (sym (ap (λ j. get_or (set first k (Some i)) j None) e ∙ get_or-set_same first k (Some i) None known))
+                (omega arith, and_from _ _ (lt-ltb i (length xs) within) (eq-eqb (get_or xs i 0) l (at ∙ sym e)), λ v b is. b)
+            | inr e ↦
+                subst (LowestFrom (stands xs l) i) (sym (get_or-set_other first k l (Some i) None e))
+                (lowest_down (stands xs l) i _ (λ is. e (sym (stands_at xs l i is) ∙ at)) (g.firsts l (omega (arith, length-set first k (Some i)))))
           ];
       afters = λ s h l.
           elim (cases_eq s i) [
             | inl e ↦
-                omega (
-                  arith,
-                  ap (λ j. get_or (set after i (get_or first k 0)) j 0) e,
-                  get_or-set_same after i (get_or first k 0) 0 room,
-                  g.firsts k known,
-                  ap (λ j. place (get_or xs j 0) (drop (j + 1) xs)) e,
-                  ap (λ j. place j (drop (i + 1) xs)) at,
-                )
-            | inr e ↦ get_or-set_other after i s (get_or first k 0) 0 e ∙ g.afters s (omega arith) l
+                subst (λ j. LowestFrom (stands xs (get_or xs j 0)) (j + 1) (get_or (set after i (get_or first k None)) j None)) (sym e)
+                (subst (LowestFrom (stands xs (get_or xs i 0)) (i + 1)) (sym (get_or-set_same after i (get_or first k None) None room))
+                (subst (λ j. LowestFrom (stands xs j) (i + 1) (get_or first k None)) (sym at) (g.firsts k known)))
+            | inr e ↦ subst (LowestFrom (stands xs (get_or xs s 0)) (s + 1)) (sym (get_or-set_other after i s (get_or first k None) None e)) (g.afters s (omega arith) l)
           ];
     }
 
--- every place of the first n entries of a table
-module _ (n : ℕ) (table first after : List ℕ) (g : Linked (take n table) 0 first after) where
-  pub linked_first : (k : ℕ) → k < length first → get_or first k 0 ≡ place k (take n table)
-  linked_first k h = omega (arith, g.firsts k h)
-
-  pub linked_after : n ≤ length table → (s : ℕ) → s < n → get_or after s 0 ≡ s + 1 + place (get_or table s 0) (drop (s + 1) (take n table))
-  linked_after room s h =
-      g.afters s (omega arith) (omega (arith, length-take-le n table room)) ∙ ap (λ k. s + 1 + place k (drop (s + 1) (take n table))) (get_or-take n table s 0 h)
+-- the next place of the number at s, in a table of which the first n entries are linked
+pub linked_after : (n : ℕ) (table : List ℕ) (first after : List (Option ℕ)) → Linked (take n table) 0 first after → n ≤ length table → (s : ℕ) → s < n
+    → LowestFrom (stands (take n table) (get_or table s 0)) (s + 1) (get_or after s None)
+linked_after n table first after g room s h =
+    subst (λ k. LowestFrom (stands (take n table) k) (s + 1) (get_or after s None)) (get_or-take n table s 0 h) (g.afters s (omega arith) (omega (arith, length-take-le n table room)))

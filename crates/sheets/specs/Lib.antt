@@ -4,7 +4,7 @@ pub mod Steps
 pub mod Splits
 pub mod Refusals
 pub mod Tables
-pub mod Places
+pub mod Walks
 pub mod Links
 pub mod Members
 pub mod Numbering

@@ -1,25 +1,28 @@
 //! The members of each class of a sheet, in tables that are made once.
-ghost use Rattle.std.specs.Prelude.{◌≡◌, ℕ, ◌+◌, ◌<◌, ◌≤◌, length, take, drop, slice_index};
-ghost use Rattle.sheets.specs.Places.{place};
+ghost use Rattle.std.specs.Prelude.{◌≡◌, ℕ, ◌+◌, ◌<◌, ◌≤◌, length, take, None, slice_index, slice_index_or};
+ghost use Rattle.std.proofs.Props.{props};
+ghost use Rattle.rules.specs.Next.{LowestFrom};
+ghost use Rattle.rules.proofs.NextFacts.{LowestFrom-prop};
+ghost use Rattle.sheets.specs.Links.{stands};
+
+use rules::list::MOST_STATES;
 
 mod build;
+pub mod class_members;
 mod walk;
 
-/// How many states the tables have room for.
-const MOST: usize = 4096;
-
 /// A copy of a partition that tells the members of a class one by one, in rising order. The members of a class form a linked list: each
-/// state names the next higher member of its class. A number that is no state stands for none.
+/// state names the next higher member of its class.
 #[derive(Drop)]
 pub struct Members {
     states: u16,
     count: u16,
     /// The class of each state.
-    table: [u16; MOST],
+    table: [u16; MOST_STATES],
     /// The lowest member of each class.
-    first: [u16; MOST],
+    first: [Option<u16>; MOST_STATES],
     /// For each state the next higher member of its class.
-    after: [u16; MOST],
+    after: [Option<u16>; MOST_STATES],
     // There is room for every state and for every class, since there are no more classes than states.
     ghost full: { length table ≡ 4096 },
     ghost wide: { length first ≡ 4096 },
@@ -28,6 +31,6 @@ pub struct Members {
     ghost few: { count ≤ states },
     ghost below: { (s : ℕ) → s < states → slice_index table s < count },
     // Each list starts with the lowest member, and goes on with the next higher one.
-    ghost firsts: { (k : ℕ) → k < count → slice_index first k ≡ place k (take states table) },
-    ghost afters: { (s : ℕ) → s < states → slice_index after s ≡ s + 1 + place (slice_index table s) (drop (s + 1) (take states table)) },
+    ghost firsts: { (k : ℕ) → k < count → LowestFrom (stands (take states table) k) 0 (slice_index_or first k None) } by { Prim.hlevel (props, LowestFrom-prop) },
+    ghost afters: { (s : ℕ) → s < states → LowestFrom (stands (take states table) (slice_index table s)) (s + 1) (slice_index_or after s None) } by { Prim.hlevel (props, LowestFrom-prop) },
 }

@@ -1,12 +1,13 @@
 //! How the tables are made.
-ghost use Rattle.std.specs.Prelude.{◌≡◌, ℕ, ◌<◌, ◌≤◌, length, take, slice_index};
+ghost use Rattle.std.specs.Prelude.{◌≡◌, ℕ, ◌<◌, ◌≤◌, length, take, None, slice_index, slice_index_or};
 ghost use Rattle.sheets.specs.Classes.{states, class};
 ghost use Rattle.sheets.specs.Links.{Linked};
 ghost use Rattle.sheets.specs.Members.{partition, held};
 ghost use Rattle.sheets.specs.Tables.{table_classes};
 
-use super::{MOST, Members};
+use super::Members;
 use crate::sheet::Sheet;
+use rules::list::MOST_STATES;
 
 /// Copies the classes of the first `n` states.
 fn copy_classes<S: Sheet>(sheet: &S, n: u16, table: &mut [u16])
@@ -20,17 +21,16 @@ fn copy_classes<S: Sheet>(sheet: &S, n: u16, table: &mut [u16])
 }
 
 /// Links the members of each class, from the highest state down, so that each list rises. At first every list is empty.
-fn link(table: &[u16], n: u16, first: &mut [u16], after: &mut [u16])
+fn link(table: &[u16], n: u16, first: &mut [Option<u16>], after: &mut [Option<u16>])
     requires room { n ≤ length table.now }
     requires long { n ≤ length after.old }
     requires below { (s : ℕ) → s < n → slice_index table.now s < length first.old }
-    requires none { (k : ℕ) → k < length first.old → slice_index first.old k ≡ n }
+    requires none { (k : ℕ) → k < length first.old → slice_index_or first.old k None ≡ None }
     ensures { Linked (take n table.now) 0 first.new after.new }
 {
     for s in (0..n).rev() {
-        let k = table[s as usize] as usize;
-        after[s as usize] = first[k];
-        first[k] = s;
+        let class = table[s as usize] as usize;
+        after[s as usize] = first[class].replace(s);
     }
 }
 
@@ -42,10 +42,10 @@ fn tables<S: Sheet>(sheet: &S, n: u16, count: u16) -> Members
     requires below { (s : ℕ) → s < n → class (S.classes sheet.now) s < count }
     ensures { partition result ≡ table_classes count n (S.classes sheet.now).of }
 {
-    let mut table = [0; MOST];
+    let mut table = [0; MOST_STATES];
     copy_classes(sheet, n, &mut table);
-    let mut first = [n; MOST];
-    let mut after = [n; MOST];
+    let mut first = [None; MOST_STATES];
+    let mut after = [None; MOST_STATES];
     link(&table, n, &mut first, &mut after);
     Members {
         states: n,
@@ -63,7 +63,7 @@ impl Members {
         ensures { partition result ≡ held (S.classes sheet.now) }
     {
         let n = sheet.states();
-        if n as usize <= MOST {
+        if n as usize <= MOST_STATES {
             tables(sheet, n, sheet.count())
         } else {
             tables(sheet, 0, 0)

@@ -9,12 +9,12 @@ tables-requires g c =
     let lawful = c.states-n.ensures.lawful in
     record {
       known = omega (arith, c.states-n.ensures.tells);
-      room = c.if-n-le-MOST.true;
+      room = c.if-n-le-MOST_STATES.true;
       few = omega (arith, c.states-n.ensures.tells, c.count.ensures, count_most sheet lawful);
       below = λ s h. omega (arith, lawful.below s (omega (arith, c.states-n.ensures.tells)), c.count.ensures);
     }
 
-pub returns-then-n-le-MOST : goal.returns-then-n-le-MOST
-returns-then-n-le-MOST g c =
+pub returns-then-n-le-MOST_STATES : goal.returns-then-n-le-MOST_STATES
+returns-then-n-le-MOST_STATES g c =
     c.tables.ensures
-    ∙ held_whole (g.S.Sheet.classes c.args.sheet.now) c.states-n.result c.count.result c.states-n.ensures.tells c.count.ensures c.if-n-le-MOST.true
+    ∙ held_whole (g.S.Sheet.classes c.args.sheet.now) c.states-n.result c.count.result c.states-n.ensures.tells c.count.ensures c.if-n-le-MOST_STATES.true

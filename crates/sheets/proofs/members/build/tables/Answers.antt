@@ -1,7 +1,7 @@
-use Rattle.std.proofs.Common.{ℕ, List, ap, arith}
+use Rattle.std.proofs.Common.{ℕ, List, None, Option, ap, arith}
 use Rattle.std.proofs.lemmas.List.{get_or-replicate}
 use Rattle.sheets.specs.Classes.{Classes}
-use Rattle.sheets.proofs.Links.{linked_first, linked_after}
+use Rattle.sheets.proofs.Links.{linked_after}
 use Rattle.sheets.proofs.Tables.{copied}
 use Rattle.sheets.proofs.members.build.tables.Goals as goal
 
@@ -13,7 +13,7 @@ link-requires g c =
       room = omega (arith, c.requires.room, c.copy_classes.auto.table);
       long = c.requires.room;
       below = λ s h. omega (arith, copied table sheet.of c.args.n s c.copy_classes.ensures h, c.requires.below s h, c.requires.few, c.requires.room);
-      none = λ k h. get_or-replicate 4096 k c.args.n 0 h;
+      none = λ k h. get_or-replicate 4096 k None None h;
     }
 
 pub invariant_of-result : goal.invariant_of-result
@@ -30,7 +30,7 @@ invariant_of-result g c =
       held = c.requires.room;
       few = c.requires.few;
       below = λ s h. omega (arith, copied table sheet.of n s c.copy_classes.ensures h, c.requires.below s h);
-      firsts = λ k h. linked_first n table first after c.link.ensures k (omega (arith, c.link.auto.first, c.requires.few, c.requires.room));
+      firsts = λ k h. c.link.ensures.firsts k (omega (arith, c.link.auto.first, c.requires.few, c.requires.room));
       afters = linked_after n table first after c.link.ensures (omega (arith, c.requires.room, c.copy_classes.auto.table));
     }
 
