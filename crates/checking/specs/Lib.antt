@@ -6,3 +6,4 @@ pub mod Splitting
 pub mod Histories
 pub mod Agreement
 pub mod Settling
+pub mod Printed

@@ -2,6 +2,8 @@
 ghost use Rattle.std.specs.Prelude.{◌≡◌};
 ghost use Rattle.rules.specs.Refusals.{list_refusal};
 
+use std::fmt;
+
 /// A refusal in figures: the number of the rule that was broken, the layer that refused, and the place.
 #[derive(Clone, Copy, PartialEq, Eq, Debug)]
 pub struct Refusal {
@@ -36,5 +38,22 @@ impl From<ListFault> for Refusal {
                 place: i,
             },
         }
+    }
+}
+
+/// A refusal in words, as programs print it.
+impl fmt::Display for Refusal {
+    ghost use Rattle.std.specs.Prelude.{Some};
+    ghost use Rattle.rules.specs.Refusals.{refusal_text};
+
+    ghost output = { λ refusal. Some (refusal_text refusal) };
+
+    fn fmt<W: fmt::Write>(&self, f: &mut fmt::Formatter<W>) -> fmt::Result {
+        let Refusal {
+            number,
+            layer,
+            place,
+        } = *self;
+        write!(f, "refused {number} layer {layer} line {place}")
     }
 }
