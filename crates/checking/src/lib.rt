@@ -11,8 +11,6 @@ pub mod stage;
 mod suspect;
 
 /// Holds the theorem: any two checks of rules of one meaning come to an end, are right, and agree.
-pub fn checks_agree() -> u8
+pub fn checks_agree()
     ensures { ChecksAgree }
-{
-    0
-}
+{}

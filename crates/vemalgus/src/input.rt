@@ -1,24 +1,12 @@
 //! The text from standard input.
 use std::io::Read;
+use words::text::MOST_BYTES;
 
-/// One byte more than a text may have: a longer text is refused whatever follows.
-const MOST_BYTES: usize = 8193;
-
-/// The bytes of standard input, 8,193 at most.
+/// The bytes of standard input, one more than a text may have at most: a longer text is refused whatever follows.
 pub fn read_text(rt: &HostRuntime) -> anyhow::Result<Vec<u8>> {
     let mut text = Vec::new(rt.alloc());
-    let mut input = rt.stdin();
-    let mut buffer = [0; MOST_BYTES];
-    for _turn in 0..MOST_BYTES {
-        let count = input.read(&mut buffer)?;
-        for b in buffer.iter().take(count) {
-            if text.len() < MOST_BYTES {
-                text.push(*b)?;
-            }
-        }
-        if count == 0 || text.len() >= MOST_BYTES {
-            break;
-        }
-    }
+    rt.stdin()
+        .take(MOST_BYTES as u64 + 1)
+        .read_to_end(&mut text)?;
     Ok(text)
 }

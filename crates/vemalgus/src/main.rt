@@ -6,13 +6,14 @@ mod output;
 
 use anyhow::anyhow;
 use checking::settle::settle;
-use checking::stage::Verdict;
 use input::read_text;
-use output::{print_refusal, print_report, print_state};
+use output::print_state;
+use rules::refusal::Refusal;
 use rules::source::RuleSource;
 use ruletext::text::RuleText;
 use sheets::whole::WholeSheet;
 use std::process::ExitCode;
+use trace::area::Areas;
 
 /// Settles the rules of a text, and prints the verdict and the run.
 fn settle_text(rt: &HostRuntime, text: &RuleText) -> anyhow::Result<()> {
@@ -21,37 +22,30 @@ fn settle_text(rt: &HostRuntime, text: &RuleText) -> anyhow::Result<()> {
     let mut path = vec![in heap; 0; n]?;
     let mut marks = vec![in heap; 0; n]?;
     let mut scratch = vec![in heap; 0; 2 * n]?;
-    let mut sheet = WholeSheet::new(text);
-    let said = match settle(text, &mut sheet, &mut path, &mut marks, &mut scratch) {
-        Ok(said) => said,
-        Err(_) => return Err(anyhow!("the check was refused")),
+    let mut areas = Areas {
+        path: &mut path,
+        marks: &mut marks,
+        scratch: &mut scratch,
     };
-    print_report(rt, said)?;
+    let said = settle(text, &mut WholeSheet::new(text), &mut areas).map_err(|_| anyhow!("the check was refused"))?;
+    println!(rt; "{said}")?;
     for s in path.iter().take(said.length as usize) {
         print_state(rt, text, *s)?;
     }
     Ok(())
 }
 
-/// Whether the text was read, and then settled.
-fn run(rt: &HostRuntime) -> anyhow::Result<bool> {
-    let bytes = read_text(rt)?;
+/// Status 0 with a verdict, and 1 with a refusal.
+fn main(rt: HostRuntime) -> anyhow::Result<ExitCode> {
+    let bytes = read_text(&rt)?;
     match RuleText::read(rt.alloc(), &bytes) {
         Ok(text) => {
-            settle_text(rt, &text)?;
-            Ok(true)
+            settle_text(&rt, &text)?;
+            Ok(ExitCode::SUCCESS)
         }
         Err(fault) => {
-            print_refusal(rt, Refusal::from(fault))?;
-            Ok(false)
+            println!(rt; "{}", Refusal::from(fault))?;
+            Ok(ExitCode::FAILURE)
         }
     }
-}
-
-fn main(rt: HostRuntime) -> anyhow::Result<ExitCode> {
-    Ok(if run(&rt)? {
-        ExitCode::SUCCESS
-    } else {
-        ExitCode::FAILURE
-    })
 }

@@ -1,4 +1,4 @@
-use Rattle.std.proofs.Common.{ℕ, List, None, Option, ap, arith}
+use Rattle.std.proofs.Common.{ℕ, List, None, ap, arith}
 use Rattle.std.proofs.lemmas.List.{get_or-replicate}
 use Rattle.sheets.specs.Classes.{Classes}
 use Rattle.sheets.proofs.Links.{linked_after}
