@@ -4,11 +4,13 @@ use checking::fault::CheckFault;
 use checking::settle::settle;
 use checking::stage::{Followed, Report, Searched, Spurious, Suspect, Verdict};
 use rules::list::TransitionList;
+use rules::refusal::Refusal;
 use rules::transition::Transition;
 use search::area::AreaFault;
 use sheets::sheet::{Sheet, SheetFault};
 use sheets::whole::WholeSheet;
 use std::test::Fail;
+use trace::area::Areas;
 use trace::fault::TraceFault;
 
 /// The steps of x of size 4 that becomes x + 2, from 0, and breaks at 3.
@@ -21,34 +23,39 @@ const STEPS: [Transition; 4] = [
 
 const FLAGS: [u8; 4] = [1, 0, 0, 2];
 
-/// The areas that are lent to the calls.
+/// The memory that is lent to the calls.
 #[derive(Drop)]
-struct Areas {
+struct Memory {
     path: [u16; 4],
     marks: [u8; 4],
     scratch: [u16; 8],
 }
 
-impl Areas {
+impl Memory {
     fn new() -> Self {
-        Areas {
+        Memory {
             path: [9; 4],
             marks: [9; 4],
             scratch: [9; 8],
         }
     }
+
+    fn lend(&mut self) -> Areas<'_> {
+        Areas {
+            path: &mut self.path,
+            marks: &mut self.marks,
+            scratch: &mut self.scratch,
+        }
+    }
 }
 
 /// A check of x that stands at its first suspect run.
-fn suspected(list: &TransitionList, sheet: &WholeSheet, lent: &mut Areas) -> Result<Suspect, Fail> {
-    match search(
-        begin(sheet),
-        list,
-        sheet,
-        &mut lent.path,
-        &mut lent.marks,
-        &mut lent.scratch,
-    ) {
+fn suspected(
+    list: &TransitionList,
+    sheet: &WholeSheet,
+    lent: &mut Memory,
+) -> Result<Suspect, Fail> {
+    match search(begin(sheet), list, sheet, &mut lent.lend()) {
         Ok(Searched::Suspect(suspect)) => Ok(suspect),
         Ok(Searched::Holds(_)) => Err(Fail::new("no suspect run")),
         Err(_) => Err(Fail::new("the search was refused")),
@@ -56,16 +63,13 @@ fn suspected(list: &TransitionList, sheet: &WholeSheet, lent: &mut Areas) -> Res
 }
 
 /// A check of x whose first suspect run was traced and is none of the rules.
-fn spurious(list: &TransitionList, sheet: &WholeSheet, lent: &mut Areas) -> Result<Spurious, Fail> {
+fn spurious(
+    list: &TransitionList,
+    sheet: &WholeSheet,
+    lent: &mut Memory,
+) -> Result<Spurious, Fail> {
     let suspect = suspected(list, sheet, lent)?;
-    match trace(
-        suspect,
-        list,
-        sheet,
-        &mut lent.path,
-        &mut lent.marks,
-        &mut lent.scratch,
-    ) {
+    match trace(suspect, list, sheet, &mut lent.lend()) {
         Ok(Followed::Spurious(spurious)) => Ok(spurious),
         Ok(Followed::Breaks(_)) => Err(Fail::new("a run was found")),
         Err(_) => Err(Fail::new("the trace was refused")),
@@ -77,18 +81,12 @@ fn a_check_that_holds_after_one_split(rt: HostRuntime) -> Result<(), Fail> {
     let list = TransitionList::new(4, &FLAGS, &STEPS)?;
     let mut sheet = WholeSheet::new(&list);
     assert_eq!(rt; sheet.count(), 2);
-    let mut lent = Areas::new();
+    let mut lent = Memory::new();
     let spurious = spurious(&list, &sheet, &mut lent)?;
     assert_eq!(rt; lent.path, [0, 1, 0, 0]);
     assert_eq!(rt; lent.marks, [1, 2, 0, 0], "0 is dead, 1 is bad");
     assert_eq!(rt; lent.scratch, [0; 8]);
-    let Ok(open) = split(
-        spurious,
-        &mut sheet,
-        &mut lent.path,
-        &mut lent.marks,
-        &mut lent.scratch,
-    ) else {
+    let Ok(open) = split(spurious, &mut sheet, &mut lent.lend()) else {
         return Err(Fail::new("the split was refused"));
     };
     assert_eq!(rt; lent.path, [0; 4]);
@@ -96,14 +94,7 @@ fn a_check_that_holds_after_one_split(rt: HostRuntime) -> Result<(), Fail> {
     assert_eq!(rt; sheet.class(1), Some(1));
     assert_eq!(rt; sheet.class(2), Some(0));
     assert_eq!(rt; sheet.class(3), Some(2));
-    let said = match search(
-        open,
-        &list,
-        &sheet,
-        &mut lent.path,
-        &mut lent.marks,
-        &mut lent.scratch,
-    ) {
+    let said = match search(open, &list, &sheet, &mut lent.lend()) {
         Ok(Searched::Holds(done)) => report(done),
         Ok(Searched::Suspect(_)) => return Err(Fail::new("a suspect run")),
         Err(_) => return Err(Fail::new("the search was refused")),
@@ -135,7 +126,15 @@ fn a_whole_check_that_breaks_keeps_the_rest_of_its_areas(rt: HostRuntime) -> Res
         length: 3,
     };
     assert_eq!(rt;
-        settle(&list, &mut sheet, &mut path, &mut marks, &mut scratch),
+        settle(
+            &list,
+            &mut sheet,
+            &mut Areas {
+                path: &mut path,
+                marks: &mut marks,
+                scratch: &mut scratch,
+            },
+        ),
         Ok(expected)
     );
     assert_eq!(rt; path, [0, 1, 2, 7]);
@@ -149,14 +148,16 @@ fn areas_that_are_too_short_are_refused_and_kept(rt: HostRuntime) -> Result<(), 
     let list = TransitionList::new(4, &FLAGS, &STEPS)?;
     let mut sheet = WholeSheet::new(&list);
     let short = Err(CheckFault::Area(AreaFault::TooShort));
-    let mut lent = Areas::new();
+    let mut lent = Memory::new();
     assert_eq!(rt;
         settle(
             &list,
             &mut sheet,
-            &mut lent.path[0..3],
-            &mut lent.marks,
-            &mut lent.scratch,
+            &mut Areas {
+                path: &mut lent.path[0..3],
+                marks: &mut lent.marks,
+                scratch: &mut lent.scratch,
+            },
         ),
         short
     );
@@ -164,9 +165,11 @@ fn areas_that_are_too_short_are_refused_and_kept(rt: HostRuntime) -> Result<(), 
         settle(
             &list,
             &mut sheet,
-            &mut lent.path,
-            &mut lent.marks[0..3],
-            &mut lent.scratch,
+            &mut Areas {
+                path: &mut lent.path,
+                marks: &mut lent.marks[0..3],
+                scratch: &mut lent.scratch,
+            },
         ),
         short
     );
@@ -174,9 +177,11 @@ fn areas_that_are_too_short_are_refused_and_kept(rt: HostRuntime) -> Result<(), 
         settle(
             &list,
             &mut sheet,
-            &mut lent.path,
-            &mut lent.marks,
-            &mut lent.scratch[0..7],
+            &mut Areas {
+                path: &mut lent.path,
+                marks: &mut lent.marks,
+                scratch: &mut lent.scratch[0..7],
+            },
         ),
         short
     );
@@ -192,14 +197,8 @@ fn a_sheet_of_another_size_is_refused(rt: HostRuntime) -> Result<(), Fail> {
     let list = TransitionList::new(4, &FLAGS, &STEPS)?;
     let other = TransitionList::new(1, &[1], &[])?;
     let mut sheet = WholeSheet::new(&other);
-    let mut lent = Areas::new();
-    let said = settle(
-        &list,
-        &mut sheet,
-        &mut lent.path,
-        &mut lent.marks,
-        &mut lent.scratch,
-    );
+    let mut lent = Memory::new();
+    let said = settle(&list, &mut sheet, &mut lent.lend());
     assert_eq!(rt; said, Err(CheckFault::SizesDiffer));
     assert_eq!(rt; Refusal::from(CheckFault::SizesDiffer).number, 15);
     assert_eq!(rt; lent.path, [9; 4]);
@@ -210,17 +209,10 @@ fn a_sheet_of_another_size_is_refused(rt: HostRuntime) -> Result<(), Fail> {
 fn a_tampered_path_is_refused_and_the_check_goes_on_after(rt: HostRuntime) -> Result<(), Fail> {
     let list = TransitionList::new(4, &FLAGS, &STEPS)?;
     let sheet = WholeSheet::new(&list);
-    let mut lent = Areas::new();
+    let mut lent = Memory::new();
     let suspect = suspected(&list, &sheet, &mut lent)?;
     lent.path = [1, 0, 0, 0];
-    let Err(back) = trace(
-        suspect,
-        &list,
-        &sheet,
-        &mut lent.path,
-        &mut lent.marks,
-        &mut lent.scratch,
-    ) else {
+    let Err(back) = trace(suspect, &list, &sheet, &mut lent.lend()) else {
         return Err(Fail::new("the trace was accepted"));
     };
     assert_eq!(rt; back.fault, CheckFault::Trace(TraceFault::NoSuspectRun));
@@ -228,14 +220,7 @@ fn a_tampered_path_is_refused_and_the_check_goes_on_after(rt: HostRuntime) -> Re
     assert_eq!(rt; lent.path, [1, 0, 0, 0]);
     assert_eq!(rt; lent.marks, [0; 4]);
     lent.path = [0, 1, 0, 0];
-    match trace(
-        back.check,
-        &list,
-        &sheet,
-        &mut lent.path,
-        &mut lent.marks,
-        &mut lent.scratch,
-    ) {
+    match trace(back.check, &list, &sheet, &mut lent.lend()) {
         Ok(Followed::Spurious(_)) => {
             assert_eq!(rt; lent.marks, [1, 2, 0, 0]);
             Ok(())
@@ -249,16 +234,10 @@ fn a_tampered_path_is_refused_and_the_check_goes_on_after(rt: HostRuntime) -> Re
 fn tampered_marks_are_refused_and_the_sheet_is_left(rt: HostRuntime) -> Result<(), Fail> {
     let list = TransitionList::new(4, &FLAGS, &STEPS)?;
     let mut sheet = WholeSheet::new(&list);
-    let mut lent = Areas::new();
+    let mut lent = Memory::new();
     let spurious = spurious(&list, &sheet, &mut lent)?;
     lent.marks = [1, 2, 0, 2];
-    let Err(back) = split(
-        spurious,
-        &mut sheet,
-        &mut lent.path,
-        &mut lent.marks,
-        &mut lent.scratch,
-    ) else {
+    let Err(back) = split(spurious, &mut sheet, &mut lent.lend()) else {
         return Err(Fail::new("the split was accepted"));
     };
     assert_eq!(rt; back.fault, CheckFault::Sheet(SheetFault::BadMarks));

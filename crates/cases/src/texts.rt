@@ -8,6 +8,7 @@ use sheets::whole::WholeSheet;
 use std::alloc::Global;
 use std::process::Abort;
 use std::test::Fail;
+use trace::area::Areas;
 
 /// A board that keeps a journey in a cache which is filled once.
 const BOARD: &[u8] =
@@ -72,7 +73,15 @@ fn a_board_breaks_in_two_states(rt: HostRuntime) -> Result<(), Fail> {
     let mut path = [0; 18];
     let mut marks = [0; 18];
     let mut scratch = [0; 36];
-    let said = settle(&board, &mut sheet, &mut path, &mut marks, &mut scratch)?;
+    let said = settle(
+        &board,
+        &mut sheet,
+        &mut Areas {
+            path: &mut path,
+            marks: &mut marks,
+            scratch: &mut scratch,
+        },
+    )?;
     assert_eq!(rt; said.verdict, Verdict::Breaks);
     assert_eq!(rt; said.length, 2);
     assert_eq!(rt; path[0], 8);
@@ -89,7 +98,15 @@ fn a_sum_is_taken_modulo_the_size(rt: HostRuntime) -> Result<(), Fail> {
     let mut path = [0; 4];
     let mut marks = [0; 4];
     let mut scratch = [0; 8];
-    let said = settle(&counter, &mut sheet, &mut path, &mut marks, &mut scratch)?;
+    let said = settle(
+        &counter,
+        &mut sheet,
+        &mut Areas {
+            path: &mut path,
+            marks: &mut marks,
+            scratch: &mut scratch,
+        },
+    )?;
     assert_eq!(rt; said.verdict, Verdict::Holds);
     assert_eq!(rt; said.splits, 1);
     assert_eq!(rt; said.last, 3);

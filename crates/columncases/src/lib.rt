@@ -10,6 +10,7 @@ use ruletext::text::RuleText;
 use sheets::sheet::Sheet;
 use std::alloc::Global;
 use std::test::Fail;
+use trace::area::Areas;
 
 /// A board that keeps a journey in a cache which is filled once.
 const BOARD: &[u8] =
@@ -22,10 +23,8 @@ fn tuples_that_agree_on_all_comparisons_share_a_class(rt: HostRuntime) -> Result
     let sheet = ColumnSheet::new(&pair)?;
     assert_eq!(rt; sheet.count(), 5);
     let classes: [u16; 9] = [0, 1, 2, 3, 0, 2, 3, 3, 4];
-    let mut s = 0;
-    for class in classes {
-        assert_eq!(rt; sheet.class(s), Some(class));
-        s = s.saturating_add(1);
+    for (s, class) in classes.iter().enumerate() {
+        assert_eq!(rt; sheet.class(s as u16), Some(*class));
     }
     assert_eq!(rt; sheet.class(9), None);
     Ok(())
@@ -42,15 +41,26 @@ fn a_board_breaks_by_columns_without_a_split(rt: HostRuntime) -> Result<(), Fail
         begin(&sheet),
         &board,
         &sheet,
-        &mut path,
-        &mut marks,
-        &mut scratch,
+        &mut Areas {
+            path: &mut path,
+            marks: &mut marks,
+            scratch: &mut scratch,
+        },
     );
     let Ok(Searched::Suspect(suspect)) = found else {
         return Err(Fail::new("no suspect run"));
     };
     assert_eq!(rt; (path[0], path[1], path[2]), (0, 3, 0));
-    let followed = trace(suspect, &board, &sheet, &mut path, &mut marks, &mut scratch);
+    let followed = trace(
+        suspect,
+        &board,
+        &sheet,
+        &mut Areas {
+            path: &mut path,
+            marks: &mut marks,
+            scratch: &mut scratch,
+        },
+    );
     let Ok(Followed::Breaks(done)) = followed else {
         return Err(Fail::new("no run of the rules"));
     };
@@ -74,7 +84,15 @@ fn a_counter_by_twos_holds_by_columns_after_two_splits(rt: HostRuntime) -> Resul
     let mut path = [0; 4];
     let mut marks = [0; 4];
     let mut scratch = [0; 8];
-    let said = settle(&counter, &mut sheet, &mut path, &mut marks, &mut scratch)?;
+    let said = settle(
+        &counter,
+        &mut sheet,
+        &mut Areas {
+            path: &mut path,
+            marks: &mut marks,
+            scratch: &mut scratch,
+        },
+    )?;
     let expected = Report {
         verdict: Verdict::Holds,
         splits: 2,
