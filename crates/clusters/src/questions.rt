@@ -18,18 +18,14 @@ impl Clusters {
     pub fn size(&self, v: usize) -> u16
         ensures { result ≡ slice_index (sizes_in self.now) v }
     {
-        if v < self.variables { self.sizes[v] } else { 0 }
+        self.sizes[..self.variables].get(v).copied().unwrap_or(0)
     }
 
     /// The cluster of the variable v; 0 of a number that is no variable.
     pub fn cluster(&self, v: usize) -> u16
         ensures { result ≡ slice_index (partition self.now).of v }
     {
-        if v < self.variables {
-            self.clusters[v]
-        } else {
-            0
-        }
+        self.clusters[..self.variables].get(v).copied().unwrap_or(0)
     }
 
     /// How many clusters there are.
