@@ -23,7 +23,7 @@ own_labelled reads xs long own = record {
 
 -- ── At the end ──
 
-module _ (r : Rules) (c : Columns) (columned : Columned r c) (n : ℕ) (told : n ≡ length c.sizes) where
+module _ {r : Rules} {c : Columns} (columned : Columned r c) {n : ℕ} (told : n ≡ length c.sizes) where
   -- all sizes were copied
   module _ (ds : List ℕ) (long : length ds ≡ 12) (copied : (v : ℕ) → v < 12 → get_or ds v 0 ≡ get_or c.sizes v 0) where
     front : length (take n ds) ≡ n
@@ -36,7 +36,7 @@ module _ (r : Rules) (c : Columns) (columned : Columned r c) (n : ℕ) (told : n
     sizes_wide v h = omega (arith, copied v (omega (arith, columned.most)), columned.wide v (omega arith))
 
   -- labels xs that every atom agrees with, numbered as ys, are the clusters
-  module _ (xs ys : List ℕ) (count : ℕ) (labelled : Labelled c.reads xs) (one : (a : ℕ) → a < c.atoms → OneLabel (c.reads a) n xs) (room : n ≤ length ys)
+  module _ {xs ys : List ℕ} {count : ℕ} (labelled : Labelled c.reads xs) (one : (a : ℕ) → a < c.atoms → OneLabel (c.reads a) n xs) (room : n ≤ length ys)
       (anew : Renumbered n xs ys count) where
     linked_same : {v w : ℕ} → Linked c.reads v w → get_or xs v 0 ≡ get_or xs w 0
     linked_same =
