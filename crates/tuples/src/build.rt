@@ -13,13 +13,13 @@ use clusters::cluster::Clusters;
 fn width_of(clusters: &Clusters, k: usize) -> u16
     ensures { result ≡ width (sizes_in clusters.now) (partition clusters.now).of k }
 {
-    let mut width = 1;
-    for (&size, &cluster) in clusters.sizes().iter().zip(clusters.clusters()) {
-        if usize::from(cluster) == k {
-            width *= size;
-        }
-    }
-    width
+    clusters
+        .sizes()
+        .iter()
+        .zip(clusters.clusters())
+        .filter(|(_, cluster)| usize::from(**cluster) == k)
+        .map(|(size, _)| *size)
+        .product()
 }
 
 /// Where the tuples of each cluster stand, and where those of the last end.

@@ -1,26 +1,35 @@
-use Rattle.std.proofs.Common.{◌+◌, ◌*◌, length, sym, ap, ◌∙◌, arith, rules}
-use Rattle.std.proofs.lemmas.List.{length_push}
-use Rattle.std.proofs.lemmas.Slice.Zip.{zip_turn}
+use Rattle.std.proofs.Common.{ℕ, ◌*◌, eqb, ap, ◌∙◌, one-mul, arith, rules, tests}
+use Rattle.std.proofs.lemmas.Iterator.{YieldsList-from_slice, YieldsList-from_zip, YieldsList-from_map}
+use Rattle.std.proofs.lemmas.Iterator.Adapters.{total_from_yields_List}
+use Rattle.std.proofs.lemmas.Iterator.Consumers.{YieldsList-from_filter, YieldsList-at}
+use Rattle.columns.specs.Columns.{product}
 use Rattle.clusters.specs.Shapes.{sizes_in, partition}
 use Rattle.clusters.proofs.Own.{own_shape}
-use Rattle.tuples.proofs.WidthLoops.{multiplying_more, multiplying_skip, multiplying_small}
+use Rattle.tuples.specs.Tuples.{within}
+use Rattle.tuples.proofs.StateGrid.{shape_positive}
+use Rattle.tuples.proofs.Within.{within_positive}
+use Rattle.tuples.proofs.Widths.{width_most}
+use Rattle.tuples.proofs.WidthProducts.{within_zip, fold_product, products_fit}
 use Rattle.tuples.proofs.build.width_of.Goals as goal
 
-pub overflow_mul-width : goal.overflow_mul-width
-overflow_mul-width c =
+pub product-requires-clause-fits : goal.product-requires-clause-fits
+product-requires-clause-fits c =
     let x = c.args.clusters.now in
-    let t = zip_turn (sizes_in x) (partition x).of c.loop-size.yielded c.into_iter-size-iterator.result c.loop-size.size-iterator c.next.new.self c.next.result (search rules) (search rules) c.loop-size.yielded_by (c.in-Some.field-0-0, c.in-Some.field-0-1) c.in-Some.is c.next.ensures.steps in
-    let next = multiplying_more (sizes_in x) (partition x).of c.args.k (length c.loop-size.yielded) c.loop-size.width t.0 t.1 c.loop-size.invariant.2 (sym (t.3 0) ∙ sym c.from.ensures ∙ c.if-from-k.true) in
-    omega (arith, multiplying_small (sizes_in x) (partition x).of x.count (own_shape x) c.args.k (length c.loop-size.yielded + 1) _ next, ap (λ d. c.loop-size.width * d) (t.2 0))
+    products_fit (within c.args.k (partition x).of (sizes_in x)) _
+    (YieldsList-from_map {s = c.map.result} _ (λ (q : ℕ × ℕ). q.0)
+    (YieldsList-at c.map.ensures.source
+    (YieldsList-from_filter _ (λ (q : ℕ × ℕ). eqb q.1 c.args.k) (YieldsList-at c.filter.ensures.source (YieldsList-from_zip (YieldsList-from_slice (sizes_in x) (search rules)) (YieldsList-from_slice (partition x).of (search rules))))
+    c.filter.ensures.closure (λ q b f h. search (rules, tests))))
+    c.map.ensures.closure (λ q r f h. search (rules, tests)))
+    (within_zip c.args.k (sizes_in x) (partition x).of) (within_positive c.args.k (partition x).of (sizes_in x) (shape_positive (sizes_in x) (partition x).of x.count (own_shape x))) (omega (arith, width_most (sizes_in x) (partition x).of x.count (own_shape x) c.args.k))
 
-pub loop-size-preserved-then-from-k : goal.loop-size-preserved-then-from-k
-loop-size-preserved-then-from-k c =
+pub returns : goal.returns
+returns c =
     let x = c.args.clusters.now in
-    let t = zip_turn (sizes_in x) (partition x).of c.loop-size.yielded c.into_iter-size-iterator.result c.loop-size.size-iterator c.next.new.self c.next.result (search rules) (search rules) c.loop-size.yielded_by (c.in-Some.field-0-0, c.in-Some.field-0-1) c.in-Some.is c.next.ensures.steps in
-    ((tt, tt), tt, rw (length_push c.loop-size.yielded (c.in-Some.field-0-0, c.in-Some.field-0-1), t.2 0) (multiplying_more (sizes_in x) (partition x).of c.args.k (length c.loop-size.yielded) c.loop-size.width t.0 t.1 c.loop-size.invariant.2 (sym (t.3 0) ∙ sym c.from.ensures ∙ c.if-from-k.true)))
-
-pub loop-size-preserved : goal.loop-size-preserved
-loop-size-preserved c =
-    let x = c.args.clusters.now in
-    let t = zip_turn (sizes_in x) (partition x).of c.loop-size.yielded c.into_iter-size-iterator.result c.loop-size.size-iterator c.next.new.self c.next.result (search rules) (search rules) c.loop-size.yielded_by (c.in-Some.field-0-0, c.in-Some.field-0-1) c.in-Some.is c.next.ensures.steps in
-    ((tt, tt), tt, rw (length_push c.loop-size.yielded (c.in-Some.field-0-0, c.in-Some.field-0-1)) (multiplying_skip (sizes_in x) (partition x).of c.args.k (length c.loop-size.yielded) c.loop-size.width t.0 t.1 c.loop-size.invariant.2 (λ e. c.if-from-k.false (c.from.ensures ∙ t.3 0 ∙ e))))
+    total_from_yields_List (λ a d. a * d) 1 c.product.result c.product.ensures.ran
+    (YieldsList-from_map {s = c.map.result} _ (λ (q : ℕ × ℕ). q.0)
+    (YieldsList-at c.map.ensures.source
+    (YieldsList-from_filter _ (λ (q : ℕ × ℕ). eqb q.1 c.args.k) (YieldsList-at c.filter.ensures.source (YieldsList-from_zip (YieldsList-from_slice (sizes_in x) (search rules)) (YieldsList-from_slice (partition x).of (search rules))))
+    c.filter.ensures.closure (λ q b f h. search (rules, tests))))
+    c.map.ensures.closure (λ q r f h. search (rules, tests)))
+    ∙ fold_product 1 _ ∙ one-mul _ ∙ ap product (within_zip c.args.k (sizes_in x) (partition x).of)
