@@ -1,17 +1,11 @@
 -- Numbers for the front of a table.
 use Rattle.std.proofs.Common.{◌≡◌, ℕ, ◌<◌, ◌≤◌, List, ◌++◌, length, get_or, take, sym, ◌∙◌, arith}
 use Rattle.std.proofs.lemmas.List.{get_or-take, length-take-le, get_or_append_left}
-use Rattle.sheets.specs.Numbering.{Renumbered, Numberable}
+use Rattle.sheets.specs.Numbering.{Renumbered}
 
 module _ (n : ℕ) (xs : List ℕ) (room : n ≤ length xs) where
   front : length (take n xs) ≡ n
   front = length-take-le n xs room
-
-  pub front_numberable : n ≤ 4096 → ((s : ℕ) → s < n → get_or xs s 0 < 4096) → Numberable (take n xs)
-  front_numberable few small = record {
-    few = omega (arith, front);
-    small = λ s h. let lt : s < n = omega (arith, front) in omega (arith, get_or-take n xs s 0 lt, small s lt);
-  }
 
   pub front_renumbered : (zs rest : List ℕ) (count : ℕ) → length zs ≡ length (take n xs) → Renumbered (length (take n xs)) (take n xs) zs count → Renumbered n xs (zs ++ rest) count
   front_renumbered zs rest count long anew =

@@ -1,4 +1,5 @@
 pub mod Own
+mod Filled
 mod Links
 mod Loops
 mod Made

@@ -1,40 +1,9 @@
 -- What the loops keep that give linked variables one label.
-use Rattle.std.proofs.Common.{◌≡◌, ℕ, ◌+◌, ◌<◌, ◌≤◌, Bool, true, false, ◌≢◌, List, ◌++◌, map, length, get_or, take, drop, set, sym, ap, ◌∙◌, append-nil, arith, below_more}
-use Rattle.std.proofs.lemmas.List.Edits.{map_over_more}
-use Rattle.std.proofs.lemmas.List.{take_all, drop_all, get_or_default, length-set}
+use Rattle.std.proofs.Common.{◌≡◌, ℕ, ◌+◌, ◌<◌, ◌≤◌, Bool, true, false, List, map, get_or, arith, below_more}
 use Rattle.std.proofs.lemmas.Bool.{both_ways}
 use Rattle.clusters.specs.Linked.{alone, along}
 use Rattle.clusters.specs.Labels.{relabelled, Labelled, Coarser, OneLabel}
-use Rattle.clusters.proofs.Links.{relabelled_at, relabelled_other, merged_coarser, merged_same, merged_labelled}
-
--- ── One merge ──
-
--- the labels were xs and are ys, and those before i are merged
-pub record Merging (from to : ℕ) (xs ys : List ℕ) (i : ℕ) : Type 0 where
-  pub each : length ys ≡ length xs
-  pub done : ys ≡ map (relabelled from to) (take i xs) ++ drop i xs
-
-module _ (from to : ℕ) (xs ys : List ℕ) (i : ℕ) (within : i < length xs) (g : Merging from to xs ys i) where
-  over : set ys i (relabelled from to (get_or ys i 0)) ≡ map (relabelled from to) (take (i + 1) xs) ++ drop (i + 1) xs
-  over = map_over_more (relabelled from to) xs ys i (get_or ys i 0) within g.done (get_or_default ys i 0 (get_or ys i 0) (omega (arith, g.each)))
-
-  pub merging_more : get_or ys i 0 ≡ from → Merging from to xs (set ys i to) (i + 1)
-  merging_more e = record {
-    each = length-set ys i to ∙ g.each;
-    done = ap (λ x. set ys i x) (sym (relabelled_at from to (get_or ys i 0) e)) ∙ over;
-  }
-
-  -- another label is written back as it was
-  pub merging_skip : get_or ys i 0 ≢ from → Merging from to xs (set ys i (get_or ys i 0)) (i + 1)
-  merging_skip e = record {
-    each = length-set ys i (get_or ys i 0) ∙ g.each;
-    done = ap (λ x. set ys i x) (sym (relabelled_other from to (get_or ys i 0) e)) ∙ over;
-  }
-
-pub merging_all : (from to : ℕ) (xs ys : List ℕ) (i : ℕ) → length xs ≤ i → Merging from to xs ys i → ys ≡ map (relabelled from to) xs
-merging_all from to xs ys i end g =
-    g.done ∙ ap (λ zs. map (relabelled from to) zs ++ drop i xs) (take_all i xs end) ∙ ap (λ zs. map (relabelled from to) xs ++ zs) (drop_all i xs end)
-    ∙ append-nil (map (relabelled from to) xs)
+use Rattle.clusters.proofs.Links.{merged_coarser, merged_same, merged_labelled}
 
 -- ── One atom ──
 

@@ -1,10 +1,8 @@
 -- From labels to clusters.
-use Rattle.std.proofs.Common.{◌≡◌, ℕ, ◌<◌, ◌≤◌, Bool, eqb, List, [], ◌∷◌, length, get_or, take, sym, refl, ap, ◌∙◌, subst, arith}
-use Rattle.std.proofs.lemmas.List.{get_or-take, take_all}
-use Rattle.std.proofs.lemmas.Bool.{eqb-true}
+use Rattle.std.proofs.Common.{◌≡◌, ℕ, ◌<◌, ◌≤◌, Bool, List, length, get_or, take, sym, ◌∙◌, subst, arith}
+use Rattle.std.proofs.lemmas.List.{get_or-take, length-take-le, ext_get_or}
 use Rattle.rules.specs.Rules.{Rules}
 use Rattle.columns.specs.Columns.{Columns, Columned}
-use Rattle.columns.proofs.EachBelow.{each_below_at}
 use Rattle.sheets.specs.Numbering.{Renumbered}
 use Rattle.sheets.specs.Tables.{table_classes}
 use Rattle.sheets.proofs.Tables.{table_states}
@@ -15,33 +13,30 @@ use Rattle.clusters.proofs.Links.{linked_one}
 
 -- ── At first ──
 
--- each variable's own number
-abbrev own : List ℕ
-own = 0 ∷ 1 ∷ 2 ∷ 3 ∷ 4 ∷ 5 ∷ 6 ∷ 7 ∷ 8 ∷ 9 ∷ 10 ∷ 11 ∷ []
-
-own_at : (v : ℕ) → v < 12 → get_or own v 0 ≡ v
-own_at v h = eqb-true (get_or own v 0) v (each_below_at 12 (λ w. eqb (get_or own w 0) w) v refl h)
-
-pub own_labelled : (reads : ℕ → ℕ → Bool) → Labelled reads own
-own_labelled reads = record {
-  each = refl;
-  small = λ v h. omega (arith, own_at v h);
-  linked = λ v w hv hw e. subst (λ x. Linked reads v x) (sym (own_at v hv) ∙ e ∙ own_at w hw) (alone v);
+-- each variable has its own number
+pub own_labelled : (reads : ℕ → ℕ → Bool) (xs : List ℕ) → length xs ≡ 12 → ((v : ℕ) → v < 12 → get_or xs v 0 ≡ v) → Labelled reads xs
+own_labelled reads xs long own = record {
+  each = long;
+  small = λ v h. omega (arith, own v h);
+  linked = λ v w hv hw e. subst (λ x. Linked reads v x) (sym (own v hv) ∙ e ∙ own w hw) (alone v);
 }
 
 -- ── At the end ──
 
-module _ (r : Rules) (c : Columns) (columned : Columned r c) (n : ℕ) (told : n ≡ length c.sizes) where
+module _ {r : Rules} {c : Columns} (columned : Columned r c) {n : ℕ} (told : n ≡ length c.sizes) where
   -- all sizes were copied
-  module _ (ds : List ℕ) (copied : take n ds ≡ take n c.sizes) where
+  module _ (ds : List ℕ) (long : length ds ≡ 12) (copied : (v : ℕ) → v < 12 → get_or ds v 0 ≡ get_or c.sizes v 0) where
+    front : length (take n ds) ≡ n
+    front = length-take-le n ds (omega (arith, columned.most))
+
     pub sizes_copied : take n ds ≡ c.sizes
-    sizes_copied = copied ∙ take_all n c.sizes (omega arith)
+    sizes_copied = ext_get_or 0 (take n ds) c.sizes (front ∙ told) (λ v h. let lt : v < n = omega (arith, front) in get_or-take n ds v 0 lt ∙ copied v (omega (arith, columned.most)))
 
     pub sizes_wide : (v : ℕ) → v < n → 2 ≤ get_or ds v 0
-    sizes_wide v h = omega (arith, get_or-take n ds v 0 h, ap (λ xs. get_or xs v 0) sizes_copied, columned.wide v (omega arith))
+    sizes_wide v h = omega (arith, copied v (omega (arith, columned.most)), columned.wide v (omega arith))
 
   -- labels xs that every atom agrees with, numbered as ys, are the clusters
-  module _ (xs ys : List ℕ) (count : ℕ) (labelled : Labelled c.reads xs) (one : (a : ℕ) → a < c.atoms → OneLabel (c.reads a) n xs) (room : n ≤ length ys)
+  module _ {xs ys : List ℕ} {count : ℕ} (labelled : Labelled c.reads xs) (one : (a : ℕ) → a < c.atoms → OneLabel (c.reads a) n xs) (room : n ≤ length ys)
       (anew : Renumbered n xs ys count) where
     linked_same : {v w : ℕ} → Linked c.reads v w → get_or xs v 0 ≡ get_or xs w 0
     linked_same =

@@ -2,13 +2,17 @@
 ghost use Rattle.std.specs.Prelude.{◌≡◌, ℕ, ◌<◌, ◌≤◌, length, take, slice_index};
 ghost use Rattle.columns.specs.Columns.{product};
 
+/// The most variables.
+pub const MOST_VARIABLES: usize = 12;
+
 /// The sizes of 1 to 12 variables with at most 4,096 states, and the cluster of each.
 #[derive(Clone, Copy)]
 pub struct Clusters {
+    // Kept: `number_entries` numbers the clusters as one slice of numbers, and the definitions read sizes and clusters as two lists of numbers.
     /// How many values each variable has.
-    pub(crate) sizes: [u16; 12],
+    pub(crate) sizes: [u16; MOST_VARIABLES],
     /// The cluster of each variable.
-    pub(crate) clusters: [u16; 12],
+    pub(crate) clusters: [u16; MOST_VARIABLES],
     pub(crate) variables: usize,
     /// How many clusters there are.
     pub(crate) count: usize,

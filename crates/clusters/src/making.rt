@@ -1,22 +1,20 @@
 //! How the clusters are made.
-ghost use Rattle.std.specs.Prelude.{◌≡◌, ◌≤◌, length, take};
+ghost use Rattle.std.specs.Prelude.{◌≡◌, ℕ, ◌<◌, length, slice_index};
 ghost use Rattle.columns.specs.Columns.{Columned};
 ghost use Rattle.clusters.specs.Makes.{ClustersOf};
 
-use crate::cluster::Clusters;
+use crate::cluster::{Clusters, MOST_VARIABLES};
 use crate::linking::{link_all, renumber};
 use columns::source::ColumnedSource;
 use rules::source::RuleSource;
+use std::array;
 
-/// Copies the sizes of the variables.
-fn copy_sizes<C: ColumnedSource>(source: &C, n: u16, sizes: &mut [u16])
-    requires room { n ≤ length sizes.old }
-    requires known { n ≤ length (C.columns source.now).sizes }
-    ensures { take n sizes.new ≡ take n (C.columns source.now).sizes }
+/// The sizes of the variables, 0 behind the last.
+fn sizes_of<C: ColumnedSource>(source: &C) -> [u16; MOST_VARIABLES]
+    ensures long { length result ≡ MOST_VARIABLES }
+    ensures each { (v : ℕ) → v < MOST_VARIABLES → slice_index result v ≡ slice_index (C.columns source.now).sizes v }
 {
-    for v in 0..n {
-        sizes[v as usize] = source.width(v).unwrap();
-    }
+    array::from_fn(|v| source.width(v as u16).unwrap_or(0))
 }
 
 impl Clusters {
@@ -26,15 +24,15 @@ impl Clusters {
         ensures columned { Columned (C.RuleSource.rules source.now) (C.columns source.now) }
     {
         let n = source.variables();
-        let mut sizes = [0; 12];
-        copy_sizes(source, n, &mut sizes);
-        let mut clusters = [0, 1, 2, 3, 4, 5, 6, 7, 8, 9, 10, 11];
+        let sizes = sizes_of(source);
+        let mut clusters = array::from_fn(|v| v as u16);
         link_all(source, n, &mut clusters);
-        let count = renumber(&mut clusters, n as usize);
+        let variables = usize::from(n);
+        let count = renumber(&mut clusters, variables);
         Clusters {
             sizes,
             clusters,
-            variables: n as usize,
+            variables,
             count,
             states: source.size(),
         }

@@ -14,22 +14,32 @@ impl Clusters {
         self.variables
     }
 
+    /// How many values each variable has.
+    pub fn sizes(&self) -> &[u16]
+        ensures { result.now ≡ sizes_in self.now }
+    {
+        &self.sizes[..self.variables]
+    }
+
+    /// The cluster of each variable.
+    pub fn clusters(&self) -> &[u16]
+        ensures { result.now ≡ (partition self.now).of }
+    {
+        &self.clusters[..self.variables]
+    }
+
     /// How many values the variable v has; 0 of a number that is no variable.
     pub fn size(&self, v: usize) -> u16
         ensures { result ≡ slice_index (sizes_in self.now) v }
     {
-        if v < self.variables { self.sizes[v] } else { 0 }
+        self.sizes().get(v).copied().unwrap_or(0)
     }
 
     /// The cluster of the variable v; 0 of a number that is no variable.
     pub fn cluster(&self, v: usize) -> u16
         ensures { result ≡ slice_index (partition self.now).of v }
     {
-        if v < self.variables {
-            self.clusters[v]
-        } else {
-            0
-        }
+        self.clusters().get(v).copied().unwrap_or(0)
     }
 
     /// How many clusters there are.

@@ -1,8 +1,8 @@
 -- A state taken apart value by value, each value put behind the tuple of its cluster.
-use Rattle.std.proofs.Common.{◌≡◌, ℕ, ◌+◌, ◌*◌, ◌/◌, ◌%◌, ◌<◌, ◌≤◌, Bool, true, false, cond, eqb, List, ◌∷◌, length, get_or, drop, set, replicate, sym, refl, ap, ◌∙◌, inl, inr, mul_assoc, add-mul, zero-mul, mul-one, le-mul_of_pos_right, arith, length-set}
+use Rattle.std.proofs.Common.{◌≡◌, ℕ, ◌+◌, ◌*◌, ◌/◌, ◌%◌, ◌<◌, Bool, true, false, cond, eqb, List, ◌∷◌, length, get_or, drop, set, sym, refl, ap, ◌∙◌, inl, inr, mul_assoc, add-mul, le-mul_of_pos_right, arith, length-set}
 use native.Mathlib.Nat.{mul-div_cancel_left}
-use Rattle.std.proofs.lemmas.List.{at_drop_more, drop_more, drop_all, length-replicate, get_or-replicate, get_or_past, get_or-set_same, get_or-set_other}
-use Rattle.std.proofs.lemmas.Bool.{cases_eq, cases_lt, eq-eqb, ne_eqb, cond-true, cond-false}
+use Rattle.std.proofs.lemmas.List.{at_drop_more, drop_more, get_or-set_same, get_or-set_other}
+use Rattle.std.proofs.lemmas.Bool.{cases_eq, eq-eqb, ne_eqb, cond-true, cond-false}
 use Rattle.columns.specs.Columns.{product, number, values}
 use Rattle.columns.proofs.Digits.{product_positive}
 use Rattle.clusters.specs.Shapes.{Shape}
@@ -15,13 +15,6 @@ pub record Gathering (ds cs : List ℕ) (s : ℕ) (ts : List ℕ) (i w rest : �
   pub long : length ts ≡ 12
   pub wide : w ≡ product (drop i ds)
   pub same : (k : ℕ) → get_or ts k 0 * product (within k (drop i cs) (drop i ds)) + number (within k (drop i cs) (drop i ds)) (within k (drop i cs) (values (drop i ds) rest)) ≡ tuple ds cs k s
-
-pub zeros : (n k : ℕ) → ◌≡◌ {A = ℕ} (get_or (replicate n 0) k 0) 0
-zeros n k = elim (cases_lt k n) [ inl lt ↦ get_or-replicate n k 0 0 lt | inr le ↦ get_or_past (replicate n 0) k 0 (omega (arith, length-replicate {A = ℕ} n 0)) ]
-
-pub gathering_none : (ds cs : List ℕ) (s w : ℕ) → w ≡ product ds → Gathering ds cs s (replicate 12 0) 0 w s
-gathering_none ds cs s w e =
-    record { long = refl; wide = e; same = λ k. omega (arith, ap (λ x. x * product (within k cs ds)) (zeros 12 k), zero-mul (product (within k cs ds))) }
 
 -- one value behind the tuple so far, where b says whether its variable is of the cluster
 tuple_more : (b : Bool) (a d x : ℕ) (ws vs : List ℕ) → cond b (a * d + x) a * product ws + number ws vs ≡ a * product (cond b (d ∷ ws) ws) + number (cond b (d ∷ ws) ws) (cond b (x ∷ vs) vs)
@@ -61,13 +54,6 @@ module _ (ds cs : List ℕ) (s : ℕ) (ts : List ℕ) (i w rest : ℕ) (in_ds : 
 pub gathering_small : (ds cs : List ℕ) (m : ℕ) → Shape ds cs m → (s : ℕ) (ts : List ℕ) (i w rest k : ℕ) → s < product ds → k < m → Gathering ds cs s ts i w rest → get_or ts k 0 < 4096
 gathering_small ds cs m shape s ts i w rest k lt in_m h =
     omega (arith, le-mul_of_pos_right (get_or ts k 0) (rest_positive k i ds cs (shape_positive ds cs m shape)), h.same k, (grid ds cs m shape).below k s in_m lt, width_most ds cs m shape k)
-
-pub gathering_all : (ds cs : List ℕ) (s : ℕ) (ts : List ℕ) (i w rest : ℕ) → length ds ≤ i → length cs ≤ i → Gathering ds cs s ts i w rest → (k : ℕ) → get_or ts k 0 ≡ tuple ds cs k s
-gathering_all ds cs s ts i w rest le more h k =
-    let none = drop_all i ds le in
-    let end = drop_all i cs more in
-    let same : get_or ts k 0 * 1 + 0 ≡ tuple ds cs k s = sym (λ j. get_or ts k 0 * product (within k (end j) (none j)) + number (within k (end j) (none j)) (within k (end j) (values (none j) rest))) ∙ h.same k in
-    omega (arith, same, mul-one (get_or ts k 0))
 
 -- a turn of the loop, at the variable v with its size and its cluster
 module _ (ds cs : List ℕ) (m : ℕ) (shape : Shape ds cs m) (s : ℕ) (ts : List ℕ) (v w rest size k : ℕ) (lt : v < length ds) (sized : size ≡ get_or ds v 0) (at : k ≡ get_or cs v 0) (h : Gathering ds cs s ts v w rest) where

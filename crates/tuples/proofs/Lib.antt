@@ -3,7 +3,7 @@ pub mod Within
 pub mod Mixed
 pub mod StateGrid
 pub mod Widths
-pub mod WidthLoops
+pub mod WidthProducts
 pub mod Gathering
 pub mod LowestTable
 pub mod Lookups

@@ -1,5 +1,5 @@
 -- The table of the lowest states, written from the highest state to the lowest.
-use Rattle.std.proofs.Common.{◌≡◌, ℕ, ◌+◌, ◌<◌, ◌≤◌, true, eqb, ◌≢◌, List, length, get_or, set, sym, refl, ap, ◌∙◌, inl, inr, arith, length-set}
+use Rattle.std.proofs.Common.{◌≡◌, ℕ, ◌+◌, ◌<◌, ◌≤◌, true, eqb, ◌≢◌, List, length, get_or, set, sym, ap, ◌∙◌, inl, inr, arith, length-set}
 use Rattle.std.proofs.lemmas.List.{get_or-set_same, get_or-set_other}
 use Rattle.std.proofs.lemmas.Bool.{cases_eq, cases_order, eq-eqb, eqb-true}
 use Rattle.columns.specs.Columns.{product, each_below}
@@ -11,9 +11,6 @@ use Rattle.tuples.proofs.StateGrid.{grid}
 use Rattle.tuples.proofs.Widths.{before_ends}
 
 -- ── One state at the places of its tuples ──
-
-pub written_none : (at : ℕ → ℕ) (s : ℕ) (table : List ℕ) → Written at 0 s table table
-written_none at s table = record { long = refl; put = λ k lt. absurd (omega arith); kept = λ p h. refl }
 
 pub written_more : (at : ℕ → ℕ) (i s : ℕ) (before now : List ℕ) → at i < length now → Written at i s before now → Written at (i + 1) s before (set now (at i) s)
 written_more at i s before now room h =
@@ -34,9 +31,6 @@ pub record Lowering (ds cs : List ℕ) (m i : ℕ) (table : List ℕ) : Type 0 w
   pub long : length table ≡ 1024
   pub low : (k u : ℕ) → k < m → i ≤ u → u < product ds → get_or table (place ds cs u k) 0 ≤ u
   pub same : (k u : ℕ) → k < m → i ≤ u → u < product ds → tuple ds cs k (get_or table (place ds cs u k) 0) ≡ tuple ds cs k u
-
-pub lowering_none : (ds cs : List ℕ) (m i : ℕ) (table : List ℕ) → length table ≡ 1024 → i ≡ product ds → Lowering ds cs m i table
-lowering_none ds cs m i table long end = record { long = long; low = λ k u lt from under. absurd (omega arith); same = λ k u lt from under. absurd (omega arith) }
 
 module _ (ds cs : List ℕ) (m : ℕ) (shape : Shape ds cs m) where
   below : (k s : ℕ) → k < m → s < product ds → tuple ds cs k s < width ds cs k

@@ -7,7 +7,7 @@ ghost use Rattle.tuples.specs.Tuples.{tuple, tuples_before};
 
 use crate::state::tuples_in;
 use crate::tuple::Tuples;
-use clusters::cluster::Clusters;
+use clusters::cluster::{Clusters, MOST_VARIABLES};
 
 impl Tuples {
     /// The clusters.
@@ -36,23 +36,18 @@ impl Tuples {
         ensures tells { result ≡ tuples_before (sizes_of self.now) (clusters_of self.now) (min k (count_of self.now)) }
         ensures most { tuples_before (sizes_of self.now) (clusters_of self.now) (count_of self.now) ≤ 1024 }
     {
-        let m = self.count();
-        if k < m {
-            self.starts[k] as usize
-        } else {
-            self.starts[m] as usize
-        }
+        usize::from(self.starts[k.min(self.count())])
     }
 
     /// The tuple of each cluster in the state s, 0 where there is no such cluster, and all 0 for a number that is no state.
-    pub fn of(&self, s: u16) -> [u16; 12]
+    pub fn of(&self, s: u16) -> [u16; MOST_VARIABLES]
         ensures long { length result ≡ 12 }
         ensures tells { (k : ℕ) → slice_index result k ≡ (if ltb s (product (sizes_of self.now)) && nat_lt k (count_of self.now) then tuple (sizes_of self.now) (clusters_of self.now) k s else 0) }
     {
         if s < self.states() {
             tuples_in(&self.clusters, s)
         } else {
-            [0; 12]
+            [0; MOST_VARIABLES]
         }
     }
 
@@ -60,13 +55,9 @@ impl Tuples {
     pub fn lowest(&self, k: usize, t: usize) -> u16
         ensures { LowestTuple (sizes_of self.now) (clusters_of self.now) (count_of self.now) k t result }
     {
-        if k >= self.count() {
-            return 0;
-        }
-        let from = self.start(k);
-        if t >= self.start(k + 1) - from {
-            return 0;
-        }
-        self.lowest[from + t]
+        self.lowest[self.start(k)..self.start(k.saturating_add(1))]
+            .get(t)
+            .copied()
+            .unwrap_or(0)
     }
 }

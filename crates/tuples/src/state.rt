@@ -4,20 +4,19 @@ ghost use Rattle.clusters.specs.Shapes.{sizes_in, partition};
 ghost use Rattle.columns.specs.Columns.{product};
 ghost use Rattle.tuples.specs.Tuples.{tuple};
 
-use clusters::cluster::Clusters;
+use clusters::cluster::{Clusters, MOST_VARIABLES};
 
 /// The tuple of each cluster in the state s, 0 behind the last.
-pub(crate) fn tuples_in(clusters: &Clusters, s: u16) -> [u16; 12]
+pub(crate) fn tuples_in(clusters: &Clusters, s: u16) -> [u16; MOST_VARIABLES]
     requires { s < product (sizes_in clusters.now) }
-    ensures long { length result ≡ 12 }
+    ensures long { length result ≡ MOST_VARIABLES }
     ensures tells { (k : ℕ) → slice_index result k ≡ tuple (sizes_in clusters.now) (partition clusters.now).of k s }
 {
-    let mut tuples = [0; 12];
+    let mut tuples = [0; MOST_VARIABLES];
     let mut w = clusters.states();
     let mut rest = s;
-    for v in 0..clusters.variables() {
-        let size = clusters.size(v);
-        let k = clusters.cluster(v) as usize;
+    for (&size, &cluster) in clusters.sizes().iter().zip(clusters.clusters()) {
+        let k = usize::from(cluster);
         w /= size;
         tuples[k] = tuples[k] * size + rest / w;
         rest %= w;

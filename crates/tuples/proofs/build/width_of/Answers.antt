@@ -1,35 +1,35 @@
-use Rattle.std.proofs.Common.{◌+◌, ◌*◌, ◌<◌, length, sym, ap, ◌∙◌, arith}
+use Rattle.std.proofs.Common.{ℕ, ◌*◌, eqb, ap, ◌∙◌, one-mul, arith, rules, tests}
+use Rattle.std.proofs.lemmas.Iterator.{YieldsList-from_slice, YieldsList-from_zip, YieldsList-from_map}
+use Rattle.std.proofs.lemmas.Iterator.Adapters.{total_from_yields_List}
+use Rattle.std.proofs.lemmas.Iterator.Consumers.{YieldsList-from_filter, YieldsList-at}
+use Rattle.columns.specs.Columns.{product}
 use Rattle.clusters.specs.Shapes.{sizes_in, partition}
 use Rattle.clusters.proofs.Own.{own_shape}
-use Rattle.tuples.proofs.WidthLoops.{multiplying_none, multiplying_more, multiplying_skip, multiplying_small, multiplying_all}
+use Rattle.tuples.specs.Tuples.{within}
+use Rattle.tuples.proofs.StateGrid.{shape_positive}
+use Rattle.tuples.proofs.Within.{within_positive}
+use Rattle.tuples.proofs.Widths.{width_most}
+use Rattle.tuples.proofs.WidthProducts.{within_zip, fold_product, products_fit}
 use Rattle.tuples.proofs.build.width_of.Goals as goal
-use Rattle.tuples.proofs.build.width_of.Goals.{then-cluster-k, else-cluster-k}
 
-pub loop-v-init : goal.loop-v-init
-loop-v-init c = multiplying_none (sizes_in c.args.clusters.now) (partition c.args.clusters.now).of c.args.k
-
-pub overflow_mul-w : goal.overflow_mul-w
-overflow_mul-w c =
+pub product-requires-clause-fits : goal.product-requires-clause-fits
+product-requires-clause-fits c =
     let x = c.args.clusters.now in
-    let v = c.loop-v.v in
-    let shape = own_shape x in
-    let lt : v < length (sizes_in x) = omega (arith, c.loop-v-test.true, c.variables-v-end.ensures.tells) in
-    let next = multiplying_more (sizes_in x) (partition x).of c.args.k v c.loop-v.w lt (omega (arith, shape.each)) c.loop-v.invariant (sym c.cluster.ensures ∙ c.if-cluster-k.true) in
-    omega (arith, multiplying_small (sizes_in x) (partition x).of x.count shape c.args.k (v + 1) _ next, ap (λ d. c.loop-v.w * d) c.size-w.ensures)
-
-pub loop-v-preserved : goal.loop-v-preserved
-loop-v-preserved c =
-    let x = c.args.clusters.now in
-    let v = c.loop-v.v in
-    let lt : v < length (sizes_in x) = omega (arith, c.loop-v-test.true, c.variables-v-end.ensures.tells) in
-    let in_cs : v < length (partition x).of = omega (arith, (own_shape x).each) in
-    elim c.if-cluster-k.branch [
-      | then-cluster-k w ↦ rw (w.w-is, w.size-w.ensures) (multiplying_more (sizes_in x) (partition x).of c.args.k v c.loop-v.w lt in_cs c.loop-v.invariant (sym c.cluster.ensures ∙ w.if-cluster-k.true))
-      | else-cluster-k w ↦ rw w.w-is (multiplying_skip (sizes_in x) (partition x).of c.args.k v c.loop-v.w lt in_cs c.loop-v.invariant (λ e. w.if-cluster-k.false (c.cluster.ensures ∙ e)))
-    ]
+    products_fit (within c.args.k (partition x).of (sizes_in x)) _
+    (YieldsList-from_map {s = c.map.result} _ (λ (q : ℕ × ℕ). q.0)
+    (YieldsList-at c.map.ensures.source
+    (YieldsList-from_filter _ (λ (q : ℕ × ℕ). eqb q.1 c.args.k) (YieldsList-at c.filter.ensures.source (YieldsList-from_zip (YieldsList-from_slice (sizes_in x) (search rules)) (YieldsList-from_slice (partition x).of (search rules))))
+    c.filter.ensures.closure (λ q b f h. search (rules, tests))))
+    c.map.ensures.closure (λ q r f h. search (rules, tests)))
+    (within_zip c.args.k (sizes_in x) (partition x).of) (within_positive c.args.k (partition x).of (sizes_in x) (shape_positive (sizes_in x) (partition x).of x.count (own_shape x))) (omega (arith, width_most (sizes_in x) (partition x).of x.count (own_shape x) c.args.k))
 
 pub returns : goal.returns
 returns c =
     let x = c.args.clusters.now in
-    let end = c.variables-v-end.ensures.tells in
-    multiplying_all (sizes_in x) (partition x).of c.args.k c.loop-v.v c.loop-v.w (omega (arith, c.loop-v-test.false, end)) (omega (arith, c.loop-v-test.false, end, (own_shape x).each)) c.loop-v.invariant
+    total_from_yields_List (λ a d. a * d) 1 c.product.result c.product.ensures.ran
+    (YieldsList-from_map {s = c.map.result} _ (λ (q : ℕ × ℕ). q.0)
+    (YieldsList-at c.map.ensures.source
+    (YieldsList-from_filter _ (λ (q : ℕ × ℕ). eqb q.1 c.args.k) (YieldsList-at c.filter.ensures.source (YieldsList-from_zip (YieldsList-from_slice (sizes_in x) (search rules)) (YieldsList-from_slice (partition x).of (search rules))))
+    c.filter.ensures.closure (λ q b f h. search (rules, tests))))
+    c.map.ensures.closure (λ q r f h. search (rules, tests)))
+    ∙ fold_product 1 _ ∙ one-mul _ ∙ ap product (within_zip c.args.k (sizes_in x) (partition x).of)

@@ -1,38 +1,51 @@
-use Rattle.std.proofs.Common.{◌≡◌, ℕ, ◌+◌, ◌<◌, get_or, set, sym, subst, arith}
+use Rattle.std.proofs.Common.{◌≡◌, ℕ, ◌+◌, ◌<◌, List, length, get_or, take, ◌∙◌, arith, rules}
+use Rattle.std.proofs.lemmas.List.{length_push, get_or-take, length-take}
+use Rattle.std.proofs.lemmas.Slice.Zip.{zip_turn}
+use Rattle.columns.specs.Columns.{product}
 use Rattle.clusters.specs.Shapes.{sizes_in, partition}
+use Rattle.clusters.specs.declared.cluster.Clusters.{Clusters}
 use Rattle.clusters.proofs.Own.{own_shape}
-use Rattle.tuples.specs.Tables.{place, Written}
+use Rattle.tuples.specs.Tables.{place, Started}
+use Rattle.tuples.specs.Tuples.{tuple}
 use Rattle.tuples.proofs.Widths.{place_below}
-use Rattle.tuples.proofs.LowestTable.{written_none, written_more}
+use Rattle.tuples.proofs.LowestTable.{written_more}
 use Rattle.tuples.proofs.build.write_state.Goals as goal
 
-pub loop-k-init : goal.loop-k-init
-loop-k-init c = written_none (place (sizes_in c.args.clusters.now) (partition c.args.clusters.now).of c.args.s) c.args.s c.args.lowest.now
+-- the sum of the start and the tuple of the cluster k is the tuple's place in the table
+place_at : (x : Clusters) (starts tuples : List ℕ) (s count k p q : ℕ) → Started (sizes_in x) (partition x).of x.count starts → s < product (sizes_in x) → count ≡ x.count
+    → ((j : ℕ) → get_or tuples j 0 ≡ tuple (sizes_in x) (partition x).of j s) → k < length (take count starts) → p ≡ get_or (take count starts) k 0 → q ≡ get_or tuples k 0
+    → (p + q ≡ place (sizes_in x) (partition x).of s k) × (p + q < 1024)
+place_at x starts tuples s count k p q started state counted told within first second =
+    let lt : k < count = omega (arith, length-take count starts) in
+    let same : p + q ≡ place (sizes_in x) (partition x).of s k = omega (arith, first, get_or-take count starts k 0 lt, started.each k (omega arith), second, told k) in
+    (same, omega (arith, same, place_below (sizes_in x) (partition x).of x.count (own_shape x) k s (omega arith) state, started.most))
 
--- the code's place is that of the tuple, and it is in the table
-place_is : (c : goal.After-lowest-1) → get_or c.args.starts.now c.loop-k.k 0 + get_or c.tuples_in-tuples.result c.loop-k.k 0 ≡ place (sizes_in c.args.clusters.now) (partition c.args.clusters.now).of c.args.s c.loop-k.k
-place_is c =
-    let k = c.loop-k.k in
-    omega (arith, c.requires.started.each k (omega (arith, c.loop-k-test.true, c.count-k-end.ensures)), c.tuples_in-tuples.ensures.tells k)
+pub overflow_add-start : goal.overflow_add-start
+overflow_add-start c =
+    let t = zip_turn (take c.count.result c.args.starts.now) c.tuples_in-tuples.result c.loop-start.yielded c.into_iter-start-iterator.result c.loop-start.start-iterator c.next.new.self c.next.result (search rules) (search rules) c.loop-start.yielded_by (c.in-Some.field-0-0, c.in-Some.field-0-1) c.in-Some.is c.next.ensures.steps in
+    let p = place_at c.args.clusters.now c.args.starts.now c.tuples_in-tuples.result c.args.s c.count.result _ _ _ c.requires.started c.requires.state c.count.ensures c.tuples_in-tuples.ensures.tells t.0 (t.2 0) (t.3 0) in
+    omega (arith, p.1)
 
-in_table : (c : goal.After-lowest-1) → place (sizes_in c.args.clusters.now) (partition c.args.clusters.now).of c.args.s c.loop-k.k < 1024
-in_table c =
+pub bounds-lowest-from : goal.bounds-lowest-from
+bounds-lowest-from c =
+    let t = zip_turn (take c.count.result c.args.starts.now) c.tuples_in-tuples.result c.loop-start.yielded c.into_iter-start-iterator.result c.loop-start.start-iterator c.next.new.self c.next.result (search rules) (search rules) c.loop-start.yielded_by (c.in-Some.field-0-0, c.in-Some.field-0-1) c.in-Some.is c.next.ensures.steps in
+    let p = place_at c.args.clusters.now c.args.starts.now c.tuples_in-tuples.result c.args.s c.count.result _ _ _ c.requires.started c.requires.state c.count.ensures c.tuples_in-tuples.ensures.tells t.0 (t.2 0) (t.3 0) in
+    omega (arith, p.1, c.loop-start.invariant.2.long, c.requires.long)
+
+pub offset_bounds-lowest-from : goal.offset_bounds-lowest-from
+offset_bounds-lowest-from c =
+    let below = bounds-lowest-from c in
+    omega (arith, c.loop-start.invariant.2.long, c.requires.long)
+
+pub loop-start-preserved : goal.loop-start-preserved
+loop-start-preserved c =
     let x = c.args.clusters.now in
-    omega (arith, place_below (sizes_in x) (partition x).of x.count (own_shape x) c.loop-k.k c.args.s (omega (arith, c.loop-k-test.true, c.count-k-end.ensures)) c.requires.state, c.requires.started.most)
-
-pub overflow_add-lowest : goal.overflow_add-lowest
-overflow_add-lowest c = omega (arith, place_is c, in_table c)
-
-pub bounds-lowest-starts : goal.bounds-lowest-starts
-bounds-lowest-starts c = omega (arith, place_is c, in_table c, c.loop-k.invariant.long, c.requires.long)
-
-pub loop-k-preserved : goal.loop-k-preserved
-loop-k-preserved c =
-    let at : ℕ → ℕ = place (sizes_in c.args.clusters.now) (partition c.args.clusters.now).of c.args.s in
-    subst (λ p. Written at (c.loop-k.k + 1) c.args.s c.args.lowest.now (set c.loop-k.lowest p c.args.s)) (sym (place_is c)) (written_more at c.loop-k.k c.args.s c.args.lowest.now c.loop-k.lowest (omega (arith, in_table c, c.loop-k.invariant.long, c.requires.long)) c.loop-k.invariant)
-
-pub returns : goal.returns
-returns c =
-    let at : ℕ → ℕ = place (sizes_in c.args.clusters.now) (partition c.args.clusters.now).of c.args.s in
-    let end : c.loop-k.k ≡ c.args.clusters.now.count = omega (arith, c.loop-k-test.false, c.loop-k.auto.k-end, c.count-k-end.ensures) in
-    subst (λ k. Written at k c.args.s c.args.lowest.now c.loop-k.lowest) end c.loop-k.invariant
+    let at = place (sizes_in x) (partition x).of c.args.s in
+    let k = length c.loop-start.yielded in
+    let t = zip_turn (take c.count.result c.args.starts.now) c.tuples_in-tuples.result c.loop-start.yielded c.into_iter-start-iterator.result c.loop-start.start-iterator c.next.new.self c.next.result (search rules) (search rules) c.loop-start.yielded_by (c.in-Some.field-0-0, c.in-Some.field-0-1) c.in-Some.is c.next.ensures.steps in
+    let p = place_at x c.args.starts.now c.tuples_in-tuples.result c.args.s c.count.result _ _ _ c.requires.started c.requires.state c.count.ensures c.tuples_in-tuples.ensures.tells t.0 (t.2 0) (t.3 0) in (
+      (tt, tt),
+      tt,
+      rw (length_push c.loop-start.yielded (c.in-Some.field-0-0, c.in-Some.field-0-1), c.from.ensures ∙ p.0)
+          (written_more at k c.args.s c.args.lowest.now c.loop-start.lowest (omega (arith, p.0, p.1, c.loop-start.invariant.2.long, c.requires.long)) c.loop-start.invariant.2),
+    )

@@ -1,52 +1,30 @@
-use Rattle.std.proofs.Common.{◌≤◌, length, sym, ap, ◌∙◌, arith}
+use Rattle.std.proofs.Common.{sym, ap, ◌∙◌, rules, arith}
 use Rattle.columns.specs.Columns.{product}
 use Rattle.clusters.proofs.Made.{own_labelled, sizes_copied, sizes_wide, made_clustered}
 use Rattle.clusters.proofs.cluster.Clusters.new.Goals as goal
 
-pub link_all-requires : goal.link_all-requires
-link_all-requires g c =
-    let told = c.variables-n.ensures in
-    record {
-      few = omega arith;
-      labelled = own_labelled (g.C.ColumnedSource.columns c.args.source.now).reads;
-    }
+pub link_all-requires-clause-labelled : goal.link_all-requires-clause-labelled
+link_all-requires-clause-labelled g c =
+    let own = c.from_fn-clusters.ensures.items in
+    own_labelled (g.C.ColumnedSource.columns c.args.source.now).reads c.from_fn-clusters.result own.long (λ v lt. let h = own.at v 0 lt in search rules)
 
-pub invariant_of-result : goal.invariant_of-result
-invariant_of-result g c =
-    let rules = g.C.RuleSource.rules c.args.source.now in
-    let columns = g.C.ColumnedSource.columns c.args.source.now in
-    let n = c.variables-n.result in
+pub invariant_of-result-clause-wide : goal.invariant_of-result-clause-wide
+invariant_of-result-clause-wide g c =
     let told = c.variables-n.ensures in
-    let sizes = c.copy_sizes.new.sizes in
-    let copied = sizes_copied rules columns told.columned n told.tells sizes c.copy_sizes.ensures in
-    let wide = sizes_wide rules columns told.columned n told.tells sizes c.copy_sizes.ensures in
-    let made = c.size.ensures.tells ∙ sym told.columned.states ∙ ap product (sym copied) in
-    let anew = c.renumber-count.ensures in
-    record {
-      long = omega arith;
-      each = omega arith;
-      some = omega arith;
-      few = omega arith;
-      wide = wide;
-      below = anew.below;
-      fewer = anew.few;
-      made = made;
-      most = omega arith;
-    }
+    sizes_wide told.columned (c.from-variables.ensures ∙ told.tells) c.sizes_of-sizes.result c.sizes_of-sizes.ensures.long c.sizes_of-sizes.ensures.each
 
-pub returns : goal.returns
-returns g c =
-    let rules = g.C.RuleSource.rules c.args.source.now in
-    let columns = g.C.ColumnedSource.columns c.args.source.now in
-    let n = c.variables-n.result in
+pub invariant_of-result-clause-made : goal.invariant_of-result-clause-made
+invariant_of-result-clause-made g c =
     let told = c.variables-n.ensures in
-    let room : n ≤ length c.renumber-count.new.labels = omega arith in
+    let copied = sizes_copied told.columned (c.from-variables.ensures ∙ told.tells) c.sizes_of-sizes.result c.sizes_of-sizes.ensures.long c.sizes_of-sizes.ensures.each in
+    c.size.ensures.tells ∙ sym told.columned.states ∙ ap product (sym copied)
+
+pub returns-clause-made : goal.returns-clause-made
+returns-clause-made g c =
+    let told = c.variables-n.ensures in
+    let tells = c.from-variables.ensures ∙ told.tells in
     record {
-      made = record {
-        sizes_are = sizes_copied rules columns told.columned n told.tells c.copy_sizes.new.sizes c.copy_sizes.ensures;
-        clustered =
-            made_clustered rules columns told.columned n told.tells c.link_all.new.labels c.renumber-count.new.labels c.renumber-count.result
-            c.link_all.ensures.labelled c.link_all.ensures.one room c.renumber-count.ensures;
-      };
-      columned = told.columned;
+      sizes_are = sizes_copied told.columned tells c.sizes_of-sizes.result c.sizes_of-sizes.ensures.long c.sizes_of-sizes.ensures.each;
+      clustered =
+          made_clustered told.columned tells c.link_all.ensures.labelled (λ a h. rw c.from-variables.ensures (c.link_all.ensures.one a h)) (omega arith) c.renumber-count.ensures;
     }

@@ -1,23 +1,28 @@
-use Rattle.std.proofs.Common.{arith}
-use Rattle.tuples.proofs.Lookups.{to_is, in_table, past, within_table}
+use Rattle.std.proofs.Common.{◌≡◌, ◌-◌, get_or, take, drop, rules, arith}
+use Rattle.tuples.proofs.Lookups.{in_order, in_table, looked_up}
 use Rattle.tuples.proofs.tuple.Tuples.lowest.Goals as goal
 
-pub overflow_sub-start : goal.overflow_sub-start
-overflow_sub-start c =
-    omega (arith, to_is c.args.self.now c.args.k c.start-from.result c.start.result (omega (arith, c.if-k-count.false, c.count.ensures)) c.start-from.ensures.tells c.start.ensures.tells)
+pub offset_bounds-self-start : goal.offset_bounds-self-start
+offset_bounds-self-start c =
+    let order = in_order c.args.self.now c.args.k c.saturating_add.result c.start.result c.start-2.result c.saturating_add.ensures c.start.ensures.tells c.start-2.ensures.tells in
+    let most = in_table c.args.self.now c.args.k c.saturating_add.result c.start.result c.start-2.result c.saturating_add.ensures c.start.ensures.tells c.start-2.ensures.tells in
+    omega arith
 
-pub returns-then-t-start : goal.returns-then-t-start
-returns-then-t-start c =
-    past c.args.self.now c.args.k c.start-from.result c.start.result (omega (arith, c.if-k-count.false, c.count.ensures)) c.start-from.ensures.tells c.start.ensures.tells c.args.t c.if-t-start.true
+pub slice_bounds-get-count : goal.slice_bounds-get-count
+slice_bounds-get-count c = in_order c.args.self.now c.args.k c.saturating_add.result c.start.result c.start-2.result c.saturating_add.ensures c.start.ensures.tells c.start-2.ensures.tells
 
-pub offset_bounds-self-from : goal.offset_bounds-self-from
-offset_bounds-self-from c =
-    omega (arith, in_table c.args.self.now c.args.k c.start-from.result c.start.result (omega (arith, c.if-k-count.false, c.count.ensures)) c.start-from.ensures.tells c.start.ensures.tells, c.if-t-start.false)
+pub slice_bounds-get-start : goal.slice_bounds-get-start
+slice_bounds-get-start c =
+    let order = in_order c.args.self.now c.args.k c.saturating_add.result c.start.result c.start-2.result c.saturating_add.ensures c.start.ensures.tells c.start-2.ensures.tells in
+    search rules
 
-pub bounds-self-from : goal.bounds-self-from
-bounds-self-from c =
-    omega (arith, in_table c.args.self.now c.args.k c.start-from.result c.start.result (omega (arith, c.if-k-count.false, c.count.ensures)) c.start-from.ensures.tells c.start.ensures.tells, c.if-t-start.false)
+pub slice_bounds-get-end : goal.slice_bounds-get-end
+slice_bounds-get-end c =
+    let most = in_table c.args.self.now c.args.k c.saturating_add.result c.start.result c.start-2.result c.saturating_add.ensures c.start.ensures.tells c.start-2.ensures.tells in
+    search rules
 
 pub returns : goal.returns
 returns c =
-    within_table c.args.self.now c.args.k c.start-from.result c.start.result (omega (arith, c.if-k-count.false, c.count.ensures)) c.start-from.ensures.tells c.start.ensures.tells c.args.t c.if-t-start.false
+    let told = looked_up c.args.self.now c.args.k c.saturating_add.result c.start.result c.start-2.result c.saturating_add.ensures c.start.ensures.tells c.start-2.ensures.tells c.args.t in
+    let e : c.unwrap_or.result ≡ get_or (take (c.start-2.result - c.start.result) (drop c.start.result c.args.self.now.lowest)) c.args.t 0 = search rules in
+    rw e told
