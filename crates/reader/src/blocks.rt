@@ -6,11 +6,11 @@ ghost use Rattle.words.specs.Words.{each};
 ghost use Rattle.conditions.specs.Conditions.{known_tree, tree};
 ghost use Rattle.conditions.specs.Variables.{names_of, vars_of};
 ghost use Rattle.reader.specs.Answers.{Forms, Tells};
-ghost use Rattle.reader.specs.BlockLines.{title, known_effect, block_line, block_head, block, section_blocks};
+ghost use Rattle.reader.specs.BlockLines.{title, known_effect, small_effect, fitting_effect, block_line, block_head, block, section_blocks};
 ghost use Rattle.reader.specs.CaseWords.{rule};
 ghost use Rattle.reader.specs.Meanings.{rule_of, rules_in, title_of, blocks_in};
 
-use crate::effects::{all_fitting, all_known, all_small, effects};
+use crate::effects::effects;
 use crate::fault::ReadFault;
 use crate::rule_set::Case;
 use conditions::parser::disjunction;
@@ -36,7 +36,21 @@ impl Case {
     fn is_known(&self, count: usize) -> bool
         ensures { result ≡ (known_tree count (tree self.now.cond) && each (known_effect count) self.now.effects.items) }
     {
-        self.cond.is_known(count) && all_known(&self.effects, count)
+        self.cond.is_known(count) && self.effects.iter().all(|e| e.is_known(count))
+    }
+
+    /// Whether each number is below the size.
+    fn is_small(&self, size: u16) -> bool
+        ensures { result ≡ each (small_effect size) self.now.effects.items }
+    {
+        self.effects.iter().all(|e| e.is_small(size))
+    }
+
+    /// Whether no variable that a result names is larger than the size.
+    fn is_fitting(&self, known: &[Variable<'_>], size: u16) -> bool
+        ensures { result ≡ each (fitting_effect (vars_of known.now) size) self.now.effects.items }
+    {
+        self.effects.iter().all(|e| e.is_fitting(known, size))
     }
 }
 
@@ -44,25 +58,13 @@ impl Case {
 fn title<'a>(line: &mut Line<'a>) -> Option<BlockTitle<'a>>
     ensures { option_map title_of result ≡ title (left line.old) }
 {
-    let Some(first) = line.next_token() else {
-        return None;
-    };
-    let Some(second) = line.next_token() else {
-        return None;
-    };
-    if line.next_token().is_some() {
+    let name = line.next_token()?.text;
+    let count = line.next_token()?.text;
+    if line.next_token().is_some() || !is_name(name) {
         return None;
     }
-    if !is_name(first.text) {
-        return None;
-    }
-    match number_of(second.text) {
-        Some(count) => Some(BlockTitle {
-            name: first.text,
-            count,
-        }),
-        None => None,
-    }
+    let count = number_of(count)?;
+    Some(BlockTitle { name, count })
 }
 
 /// A condition, `:` and results.
@@ -94,10 +96,10 @@ fn block_line(
         return Err(ReadFault::Undeclared(number));
     }
     let size = size_at(known, i);
-    if !all_small(&case.effects, size) {
+    if !case.is_small(size) {
         return Err(ReadFault::Value(number));
     }
-    if !all_fitting(&case.effects, known, size) {
+    if !case.is_fitting(known, size) {
         return Err(ReadFault::Larger(number));
     }
     Ok(case)
@@ -113,9 +115,7 @@ fn block_head(
 {
     let mut line = reader.next_line()?;
     let number = line.number;
-    let Some(title) = title(&mut line) else {
-        return Err(ReadFault::Word(WordFault::Form(number)));
-    };
+    let title = title(&mut line).ok_or(WordFault::Form(number))?;
     if title.count > MOST_CASES {
         return Err(ReadFault::Limit(number));
     }

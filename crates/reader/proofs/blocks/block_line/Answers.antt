@@ -1,4 +1,4 @@
-use Rattle.std.proofs.Common.{◌≡◌, length, sym, ap, ◌∙◌}
+use Rattle.std.proofs.Common.{◌≡◌, length, sym, refl, ap, ◌∙◌}
 use Rattle.words.specs.Lines.{left, lines_of}
 use Rattle.words.specs.Reading.{got, line_of, refused}
 use Rattle.conditions.specs.Variables.{names, size_at, vars_of}
@@ -19,25 +19,25 @@ returns-then-not-is_known c =
     let known = known_at _ (length (vars_of c.args.known.now)) r.when r.results _ c.count_of.ensures c.if-not-is_known.ensures in
     line_unknown (vars_of c.args.known.now) c.args.i c.args.reader.now.line (lines_of c.args.reader.now) r _ _ (said (goal.at.returns-then-not-is_known c).In_ok-case) known ∙ ap (refused 7) (sym c.in_ok-line.ensures.numbered)
 
-pub returns-then-not-all_small : goal.returns-then-not-all_small
-returns-then-not-all_small c =
+pub returns-then-not-is_small : goal.returns-then-not-is_small
+returns-then-not-is_small c =
     let r = rule_of c.in_ok-case.case in
     let known = known_at _ (length (vars_of c.args.known.now)) r.when r.results _ c.count_of.ensures c.if-not-is_known.ensures in
-    let small = tested_at small_effect _ (size_at (vars_of c.args.known.now) c.args.i) _ r.results _ c.size_at-size.ensures c.deref.ensures.value c.if-not-all_small.ensures in
-    line_large (vars_of c.args.known.now) c.args.i c.args.reader.now.line (lines_of c.args.reader.now) r _ _ (said (goal.at.returns-then-not-all_small c).In_ok-case) known small ∙ ap (refused 8) (sym c.in_ok-line.ensures.numbered)
+    let small = tested_at small_effect _ (size_at (vars_of c.args.known.now) c.args.i) _ r.results _ c.size_at-size.ensures refl c.if-not-is_small.ensures in
+    line_large (vars_of c.args.known.now) c.args.i c.args.reader.now.line (lines_of c.args.reader.now) r _ _ (said (goal.at.returns-then-not-is_small c).In_ok-case) known small ∙ ap (refused 8) (sym c.in_ok-line.ensures.numbered)
 
-pub returns-then-not-all_fitting : goal.returns-then-not-all_fitting
-returns-then-not-all_fitting c =
+pub returns-then-not-is_fitting : goal.returns-then-not-is_fitting
+returns-then-not-is_fitting c =
     let r = rule_of c.in_ok-case.case in
     let known = known_at _ (length (vars_of c.args.known.now)) r.when r.results _ c.count_of.ensures c.if-not-is_known.ensures in
-    let small = tested_at small_effect _ (size_at (vars_of c.args.known.now) c.args.i) _ r.results _ c.size_at-size.ensures c.deref.ensures.value c.if-not-all_small.ensures in
-    let fitting = tested_at (fitting_effect (vars_of c.args.known.now)) _ (size_at (vars_of c.args.known.now) c.args.i) _ r.results _ c.size_at-size.ensures c.deref-2.ensures.value c.if-not-all_fitting.ensures in
-    line_larger (vars_of c.args.known.now) c.args.i c.args.reader.now.line (lines_of c.args.reader.now) r _ _ (said (goal.at.returns-then-not-all_fitting c).In_ok-case) known small fitting ∙ ap (refused 9) (sym c.in_ok-line.ensures.numbered)
+    let small = tested_at small_effect _ (size_at (vars_of c.args.known.now) c.args.i) _ r.results _ c.size_at-size.ensures refl c.if-not-is_small.ensures in
+    let fitting = tested_at (fitting_effect (vars_of c.args.known.now)) _ (size_at (vars_of c.args.known.now) c.args.i) _ r.results _ c.size_at-size.ensures refl c.if-not-is_fitting.ensures in
+    line_larger (vars_of c.args.known.now) c.args.i c.args.reader.now.line (lines_of c.args.reader.now) r _ _ (said (goal.at.returns-then-not-is_fitting c).In_ok-case) known small fitting ∙ ap (refused 9) (sym c.in_ok-line.ensures.numbered)
 
 pub returns : goal.returns
 returns c =
     let r = rule_of c.in_ok-case.case in
     let known = known_at _ (length (vars_of c.args.known.now)) r.when r.results _ c.count_of.ensures c.if-not-is_known.ensures in
-    let small = tested_at small_effect _ (size_at (vars_of c.args.known.now) c.args.i) _ r.results _ c.size_at-size.ensures c.deref.ensures.value c.if-not-all_small.ensures in
-    let fitting = tested_at (fitting_effect (vars_of c.args.known.now)) _ (size_at (vars_of c.args.known.now) c.args.i) _ r.results _ c.size_at-size.ensures c.deref-2.ensures.value c.if-not-all_fitting.ensures in
+    let small = tested_at small_effect _ (size_at (vars_of c.args.known.now) c.args.i) _ r.results _ c.size_at-size.ensures refl c.if-not-is_small.ensures in
+    let fitting = tested_at (fitting_effect (vars_of c.args.known.now)) _ (size_at (vars_of c.args.known.now) c.args.i) _ r.results _ c.size_at-size.ensures refl c.if-not-is_fitting.ensures in
     line_good (vars_of c.args.known.now) c.args.i c.args.reader.now.line (lines_of c.args.reader.now) r _ _ (said (goal.at.returns c).In_ok-case) known small fitting

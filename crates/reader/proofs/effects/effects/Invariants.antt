@@ -5,8 +5,8 @@ use Rattle.reader.specs.CaseWords.{effects}
 use Rattle.reader.proofs.effects.effects.Given as goal
 
 -- at each depth that suffices, some depth gives what is left
-abbrev pub invariant-more : goal.invariant-more
-invariant-more l = (l.line.number ≡ l.initial.line.number) × ((n : ℕ) → length (left l.initial.line) ≤ n → (m : ℕ) × (length (left l.line) ≤ m) × (effects (names_of l.known) m (vec_items l.out) (left l.line) ≡ effects (names_of l.known) n [] (left l.initial.line)))
+abbrev pub invariant-loop-out : goal.invariant-loop-out
+invariant-loop-out l = (l.line.number ≡ l.initial.line.number) × ((n : ℕ) → length (left l.initial.line) ≤ n → (m : ℕ) × (length (left l.line) ≤ m) × (effects (names_of l.known) m (vec_items l.out) (left l.line) ≡ effects (names_of l.known) n [] (left l.initial.line)))
 
-abbrev pub decreases-more : goal.decreases-more
-decreases-more l = length (left l.line)
+abbrev pub decreases-loop-out : goal.decreases-loop-out
+decreases-loop-out l = length (left l.line)
