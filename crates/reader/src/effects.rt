@@ -9,53 +9,51 @@ ghost use Rattle.reader.specs.CaseWords.{effect, effects};
 
 use crate::fault::ReadFault;
 use crate::rule_set::Effect;
+use crate::scope::Scope;
 use conditions::variable::{Variable, place_of, size_at};
-use std::alloc::Global;
 use words::fault::WordFault;
 use words::line::Line;
 use words::word::{is_name, number_of};
 
-/// A number, a name, or a name, `+` and a number.
-fn effect(line: &mut Line<'_>, known: &[Variable<'_>]) -> Result<Effect, WordFault>
-    ensures says { Parses (λ e. e) (effect (names_of known.now) (left line.old)) line.old.number result (left line.new) }
-    ensures same { line.new.number ≡ line.old.number }
-{
-    let fault = WordFault::Form(line.number);
-    let first = line.next_token().ok_or(fault)?;
-    if !is_name(first.text) {
-        let n = number_of(first.text).ok_or(fault)?;
-        return Ok(Effect::Plain(n));
-    }
-    let place = place_of(known, first.text);
-    if !line.skip(b"+") {
-        return Ok(Effect::Sum(place, 0));
-    }
-    let second = line.next_token().ok_or(fault)?;
-    let n = number_of(second.text).ok_or(fault)?;
-    Ok(Effect::Sum(place, n))
-}
-
-/// Results parted by `,`, up to the end of the line.
-pub(crate) fn effects(
-    line: &mut Line<'_>,
-    heap: Global,
-    known: &[Variable<'_>],
-) -> Result<Vec<Effect>, ReadFault>
-    ensures { (n : ℕ) → length (left line.old) ≤ n → Forms vec_items (effects (names_of known.now) n [] (left line.old)) line.old.number result }
-{
-    let fault = WordFault::Form(line.number);
-    let mut out = Vec::new(heap);
-    loop {
-        let e = effect(line, known)?;
-        out.push(e)?;
-        if !line.skip(b",") {
-            break;
+impl Scope<'_, '_> {
+    /// A number, a name, or a name, `+` and a number.
+    fn effect(&self, line: &mut Line<'_>) -> Result<Effect, WordFault>
+        ensures says { Parses (λ e. e) (effect (names_of self.now.known.now) (left line.old)) line.old.number result (left line.new) }
+        ensures same { line.new.number ≡ line.old.number }
+    {
+        let fault = WordFault::Form(line.number);
+        let first = line.next_token().ok_or(fault)?;
+        if !is_name(first.text) {
+            let n = number_of(first.text).ok_or(fault)?;
+            return Ok(Effect::Plain(n));
         }
+        let place = place_of(self.known, first.text);
+        if !line.skip(b"+") {
+            return Ok(Effect::Sum(place, 0));
+        }
+        let second = line.next_token().ok_or(fault)?;
+        let n = number_of(second.text).ok_or(fault)?;
+        Ok(Effect::Sum(place, n))
     }
-    if line.next_token().is_some() {
-        return Err(ReadFault::Word(fault));
+
+    /// Results parted by `,`, up to the end of the line.
+    pub(crate) fn effects(&self, line: &mut Line<'_>) -> Result<Vec<Effect>, ReadFault>
+        ensures { (n : ℕ) → length (left line.old) ≤ n → Forms vec_items (effects (names_of self.now.known.now) n [] (left line.old)) line.old.number result }
+    {
+        let fault = WordFault::Form(line.number);
+        let mut out = Vec::new(self.heap);
+        loop {
+            let e = self.effect(line)?;
+            out.push(e)?;
+            if !line.skip(b",") {
+                break;
+            }
+        }
+        if line.next_token().is_some() {
+            return Err(ReadFault::Word(fault));
+        }
+        Ok(out)
     }
-    Ok(out)
 }
 
 impl Effect {

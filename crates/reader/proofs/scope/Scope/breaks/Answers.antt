@@ -7,12 +7,12 @@ use Rattle.conditions.specs.Conditions.{tree}
 use Rattle.conditions.specs.Variables.{vars_of}
 use Rattle.reader.specs.BreakLines.{break_line, section_breaks}
 use Rattle.reader.proofs.SectionFacts.{comes_through, turn_fails, turn, section_is}
-use Rattle.reader.proofs.breaks.breaks.Goals as goal
+use Rattle.reader.proofs.scope.Scope.breaks.Goals as goal
 
 pub returns-in_err-cond : goal.returns-in_err-cond
 returns-in_err-cond c =
     let p = err_from_is_err_and c.from_residual-in_err-cond.result c.from_residual-in_err-cond.ensures.1 in
-    let vs = vars_of c.args.known.now in
+    let vs = vars_of c.args.self.now.known.now in
     let n = c.args.reader.now.line in
     let ls = lines_of c.args.reader.now in
     let ok : leb c.in_ok-count.count 8 ≡ true = le-leb _ _ c.if-count-gt-MOST_BREAKS.false in
@@ -21,4 +21,4 @@ returns-in_err-cond c =
 pub loop-i-preserved : goal.loop-i-preserved
 loop-i-preserved c =
     let pushed = ap (map tree) c.in_ok-push.ensures.items ∙ map_push tree (vec_items c.loop-i.out) c.in_ok-cond.cond in
-    turn (λ _. break_line (vars_of c.args.known.now)) _ _ _ _ _ _ c.loop-i.invariant c.loop-i-test.true _ _ _ _ c.in_ok-cond.ensures pushed
+    turn (λ _. break_line (vars_of c.args.self.now.known.now)) _ _ _ _ _ _ c.loop-i.invariant c.loop-i-test.true _ _ _ _ c.in_ok-cond.ensures pushed

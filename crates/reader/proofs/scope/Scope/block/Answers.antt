@@ -6,12 +6,12 @@ use Rattle.conditions.specs.Variables.{vars_of}
 use Rattle.reader.specs.BlockLines.{block_line, block}
 use Rattle.reader.specs.Meanings.{rule_of}
 use Rattle.reader.proofs.SectionFacts.{comes_through, turn_fails, turn, turns_done, block_is}
-use Rattle.reader.proofs.blocks.block.Goals as goal
+use Rattle.reader.proofs.scope.Scope.block.Goals as goal
 
 pub returns-in_err-case : goal.returns-in_err-case
 returns-in_err-case c =
     let p = err_from_is_err_and c.from_residual-in_err-case.result c.from_residual-in_err-case.ensures.1 in
-    let vs = vars_of c.args.known.now in
+    let vs = vars_of c.args.self.now.known.now in
     let i = c.args.i in
     let n = c.args.reader.now.line in
     let ls = lines_of c.args.reader.now in
@@ -20,10 +20,10 @@ returns-in_err-case c =
 pub loop-j-preserved : goal.loop-j-preserved
 loop-j-preserved c =
     let pushed = ap (map rule_of) c.in_ok-push.ensures.items ∙ map_push rule_of (vec_items c.loop-j.cases) c.in_ok-case.case in
-    turn (λ _. block_line (vars_of c.args.known.now) c.args.i) _ _ _ _ _ _ c.loop-j.invariant c.loop-j-test.true _ _ _ _ c.in_ok-case.ensures pushed
+    turn (λ _. block_line (vars_of c.args.self.now.known.now) c.args.i) _ _ _ _ _ _ c.loop-j.invariant c.loop-j-test.true _ _ _ _ c.in_ok-case.ensures pushed
 
 pub returns : goal.returns
 returns c =
-    let vs = vars_of c.args.known.now in
+    let vs = vars_of c.args.self.now.known.now in
     let i = c.args.i in
     block_is vs i c.args.reader.now.line _ _ (lines_of c.args.reader.now) _ c.in_ok-count.ensures ∙ turns_done (λ _. block_line vs i) _ _ _ _ _ _ c.loop-j.invariant c.loop-j-test.false

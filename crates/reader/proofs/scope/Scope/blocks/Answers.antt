@@ -7,12 +7,12 @@ use Rattle.conditions.specs.Variables.{vars_of}
 use Rattle.reader.specs.BlockLines.{block, section_blocks}
 use Rattle.reader.specs.Meanings.{rules_in, blocks_in}
 use Rattle.reader.proofs.SectionFacts.{comes_through, turn_fails, turn, section_is}
-use Rattle.reader.proofs.blocks.blocks.Goals as goal
+use Rattle.reader.proofs.scope.Scope.blocks.Goals as goal
 
 pub returns-in_err-block : goal.returns-in_err-block
 returns-in_err-block c =
     let p = err_from_is_err_and c.from_residual-in_err-block.result c.from_residual-in_err-block.ensures.1 in
-    let vs = vars_of c.args.known.now in
+    let vs = vars_of c.args.self.now.known.now in
     let n = c.args.reader.now.line in
     let ls = lines_of c.args.reader.now in
     let m = c.loop-i.reader.line in
@@ -23,7 +23,7 @@ returns-in_err-block c =
 
 pub loop-i-preserved : goal.loop-i-preserved
 loop-i-preserved c =
-    let vs = vars_of c.args.known.now in
+    let vs = vars_of c.args.self.now.known.now in
     let m = c.loop-i.reader.line in
     let more = lines_of c.loop-i.reader in
     let index = c.loop-i.invariant.1 ∙ sym c.from-in-loop-i.ensures in
