@@ -133,13 +133,13 @@ impl Scope<'_, '_> {
     pub(crate) fn blocks(&self, reader: &mut TextReader<'_>) -> Result<Vec<Vec<Case>>, ReadFault>
         ensures { Tells blocks_in (section_blocks (vars_of self.now.known.now) reader.old.line (lines_of reader.old)) result reader.new }
     {
-        let count = reader.heading(b"blocks")?;
-        if usize::from(count) != count_of(self.known) {
+        let count = usize::from(reader.heading(b"blocks")?);
+        if count != count_of(self.known) {
             return Err(ReadFault::Limit(reader.line));
         }
         let mut out = Vec::new(self.heap);
         for i in 0..count {
-            let block = self.block(reader, usize::from(i))?;
+            let block = self.block(reader, i)?;
             out.push(block)?;
         }
         Ok(out)

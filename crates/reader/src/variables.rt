@@ -78,7 +78,7 @@ fn variable<'a>(
     let mut line = reader.next_line()?;
     let number = line.number;
     let v = declaration(&mut line, heap)?;
-    if v.size < LEAST_SIZE || v.size > MOST_SIZE {
+    if !(LEAST_SIZE..=MOST_SIZE).contains(&v.size) {
         return Err(ReadFault::Limit(number));
     }
     if is_declared(known, v.name) {
@@ -101,7 +101,7 @@ pub(crate) fn variables<'a>(
     ensures { Tells vars_in (section_variables reader.old.line (lines_of reader.old)) result reader.new }
 {
     let count = reader.heading(b"variables")?;
-    if count < 1 || count > MOST_VARIABLES {
+    if !(1..=MOST_VARIABLES).contains(&count) {
         return Err(ReadFault::Limit(reader.line));
     }
     let mut known = Vec::new(heap);

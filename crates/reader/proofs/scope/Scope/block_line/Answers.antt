@@ -1,11 +1,13 @@
-use Rattle.std.proofs.Common.{◌≡◌, length, sym, refl, ap, ◌∙◌}
+use Rattle.std.proofs.Common.{◌≡◌, ◌&&◌, sym, ap, ◌∙◌}
 use Rattle.words.specs.Lines.{left, lines_of}
 use Rattle.words.specs.Reading.{got, line_of, refused}
-use Rattle.conditions.specs.Variables.{names, size_at, vars_of}
-use Rattle.reader.specs.BlockLines.{small_effect, fitting_effect}
+use Rattle.words.specs.Words.{each}
+use Rattle.conditions.specs.Conditions.{known_tree}
+use Rattle.conditions.specs.Variables.{names, vars_of}
+use Rattle.reader.specs.BlockLines.{known_effect, small_effect, fitting_effect}
 use Rattle.reader.specs.CaseWords.{rule}
 use Rattle.reader.specs.Meanings.{rule_of}
-use Rattle.reader.proofs.SectionFacts.{line_read, line_unknown, line_large, line_larger, line_good, known_at, tested_at}
+use Rattle.reader.proofs.SectionFacts.{line_read, line_unknown, line_large, line_larger, line_good, test_at}
 use Rattle.reader.proofs.scope.Scope.block_line.Goals.{In_ok-case}
 use Rattle.reader.proofs.scope.Scope.block_line.Goals as goal
 
@@ -16,28 +18,28 @@ said c = line_read (rule (names (vars_of c.args.self.now.known.now))) c.args.rea
 pub returns-then-not-is_known : goal.returns-then-not-is_known
 returns-then-not-is_known c =
     let r = rule_of c.in_ok-case.case in
-    let known = known_at _ (length (vars_of c.args.self.now.known.now)) r.when r.results _ c.count_of.ensures c.if-not-is_known.ensures in
+    let known = test_at (λ k. known_tree k r.when && each (known_effect k) r.results) c.count_of.ensures c.if-not-is_known.ensures in
     line_unknown (vars_of c.args.self.now.known.now) c.args.i c.args.reader.now.line (lines_of c.args.reader.now) r _ _ (said (goal.at.returns-then-not-is_known c).In_ok-case) known ∙ ap (refused 7) (sym c.in_ok-line.ensures.numbered)
 
 pub returns-then-not-is_small : goal.returns-then-not-is_small
 returns-then-not-is_small c =
     let r = rule_of c.in_ok-case.case in
-    let known = known_at _ (length (vars_of c.args.self.now.known.now)) r.when r.results _ c.count_of.ensures c.if-not-is_known.ensures in
-    let small = tested_at small_effect _ (size_at (vars_of c.args.self.now.known.now) c.args.i) _ r.results _ c.size_at-size.ensures refl c.if-not-is_small.ensures in
+    let known = test_at (λ k. known_tree k r.when && each (known_effect k) r.results) c.count_of.ensures c.if-not-is_known.ensures in
+    let small = test_at (λ k. each (small_effect k) r.results) c.size_at-size.ensures c.if-not-is_small.ensures in
     line_large (vars_of c.args.self.now.known.now) c.args.i c.args.reader.now.line (lines_of c.args.reader.now) r _ _ (said (goal.at.returns-then-not-is_small c).In_ok-case) known small ∙ ap (refused 8) (sym c.in_ok-line.ensures.numbered)
 
 pub returns-then-not-is_fitting : goal.returns-then-not-is_fitting
 returns-then-not-is_fitting c =
     let r = rule_of c.in_ok-case.case in
-    let known = known_at _ (length (vars_of c.args.self.now.known.now)) r.when r.results _ c.count_of.ensures c.if-not-is_known.ensures in
-    let small = tested_at small_effect _ (size_at (vars_of c.args.self.now.known.now) c.args.i) _ r.results _ c.size_at-size.ensures refl c.if-not-is_small.ensures in
-    let fitting = tested_at (fitting_effect (vars_of c.args.self.now.known.now)) _ (size_at (vars_of c.args.self.now.known.now) c.args.i) _ r.results _ c.size_at-size.ensures refl c.if-not-is_fitting.ensures in
+    let known = test_at (λ k. known_tree k r.when && each (known_effect k) r.results) c.count_of.ensures c.if-not-is_known.ensures in
+    let small = test_at (λ k. each (small_effect k) r.results) c.size_at-size.ensures c.if-not-is_small.ensures in
+    let fitting = test_at (λ k. each (fitting_effect (vars_of c.args.self.now.known.now) k) r.results) c.size_at-size.ensures c.if-not-is_fitting.ensures in
     line_larger (vars_of c.args.self.now.known.now) c.args.i c.args.reader.now.line (lines_of c.args.reader.now) r _ _ (said (goal.at.returns-then-not-is_fitting c).In_ok-case) known small fitting ∙ ap (refused 9) (sym c.in_ok-line.ensures.numbered)
 
 pub returns : goal.returns
 returns c =
     let r = rule_of c.in_ok-case.case in
-    let known = known_at _ (length (vars_of c.args.self.now.known.now)) r.when r.results _ c.count_of.ensures c.if-not-is_known.ensures in
-    let small = tested_at small_effect _ (size_at (vars_of c.args.self.now.known.now) c.args.i) _ r.results _ c.size_at-size.ensures refl c.if-not-is_small.ensures in
-    let fitting = tested_at (fitting_effect (vars_of c.args.self.now.known.now)) _ (size_at (vars_of c.args.self.now.known.now) c.args.i) _ r.results _ c.size_at-size.ensures refl c.if-not-is_fitting.ensures in
+    let known = test_at (λ k. known_tree k r.when && each (known_effect k) r.results) c.count_of.ensures c.if-not-is_known.ensures in
+    let small = test_at (λ k. each (small_effect k) r.results) c.size_at-size.ensures c.if-not-is_small.ensures in
+    let fitting = test_at (λ k. each (fitting_effect (vars_of c.args.self.now.known.now) k) r.results) c.size_at-size.ensures c.if-not-is_fitting.ensures in
     line_good (vars_of c.args.self.now.known.now) c.args.i c.args.reader.now.line (lines_of c.args.reader.now) r _ _ (said (goal.at.returns c).In_ok-case) known small fitting

@@ -1,22 +1,19 @@
 use Rattle.std.proofs.Common.{◌≡◌, true, leb, map, vec_items, codes, ap, ◌∙◌}
 use Rattle.std.proofs.lemmas.List.{map_push}
-use Rattle.std.proofs.lemmas.Result.{err_from_is_err_and}
 use Rattle.std.proofs.lemmas.Bool.{le-leb}
 use Rattle.words.specs.Lines.{lines_of}
 use Rattle.conditions.specs.Conditions.{tree}
 use Rattle.conditions.specs.Variables.{vars_of}
-use Rattle.reader.specs.BreakLines.{break_line, section_breaks}
-use Rattle.reader.proofs.SectionFacts.{comes_through, turn_fails, turn, section_is}
+use Rattle.reader.specs.BreakLines.{break_line}
+use Rattle.reader.specs.Meanings.{trees_in}
+use Rattle.reader.proofs.SectionFacts.{part_refused, turn_fails, turn, section_is}
 use Rattle.reader.proofs.scope.Scope.breaks.Goals as goal
 
 pub returns-in_err-cond : goal.returns-in_err-cond
 returns-in_err-cond c =
-    let p = err_from_is_err_and c.from_residual-in_err-cond.result c.from_residual-in_err-cond.ensures.1 in
     let vs = vars_of c.args.self.now.known.now in
-    let n = c.args.reader.now.line in
-    let ls = lines_of c.args.reader.now in
     let ok : leb c.in_ok-count.count 8 ≡ true = le-leb _ _ c.if-count-gt-MOST_BREAKS.false in
-    rw (p.1, p.2) (comes_through c.in_err-cond.field-0.0 (break_line vs c.loop-i.reader.line (lines_of c.loop-i.reader)) (section_breaks vs n ls) (λ item at e. section_is (λ _. break_line vs) (codes "breaks") (λ k. leb k 8) n _ _ ls _ c.in_ok-count.ensures ok ∙ turn_fails (λ _. break_line vs) _ _ _ _ _ _ c.loop-i.invariant c.loop-i-test.true item at e) c.in_err-cond.ensures)
+    part_refused trees_in _ _ _ _ _ c.from_residual-in_err-cond.ensures.1 c.in_err-cond.ensures (λ item at e. section_is (λ _. break_line vs) (codes "breaks") (λ k. leb k 8) c.args.reader.now.line _ _ (lines_of c.args.reader.now) _ c.in_ok-count.ensures ok ∙ turn_fails (λ _. break_line vs) _ _ _ _ _ _ c.loop-i.invariant c.loop-i-test.true item at e)
 
 pub loop-i-preserved : goal.loop-i-preserved
 loop-i-preserved c =
