@@ -1,5 +1,5 @@
 -- Sections, line by line.
-use Rattle.std.proofs.Common.{◌≡◌, ℕ, zero, suc, ◌+◌, ◌-◌, ◌*◌, ◌<◌, ◌≤◌, Bool, true, false, ◌&&◌, List, [], ◌∷◌, ◌++◌, length, Some, Option, Result, sym, ap, ◌∙◌, mul_assoc, one-mul, mul-one, arith}
+use Rattle.std.proofs.Common.{◌≡◌, ℕ, suc, ◌+◌, ◌-◌, ◌*◌, ◌<◌, Bool, true, false, ◌&&◌, List, [], ◌∷◌, ◌++◌, length, Some, Option, Result, sym, ap, ◌∙◌, mul_assoc, one-mul, mul-one, arith}
 use Rattle.std.proofs.lemmas.Bool.{and_from, le-leb}
 use Rattle.std.proofs.lemmas.Map.Keys.{le_from_is_le}
 use Rattle.std.proofs.lemmas.Result.{err_from_is_err_and}
@@ -9,7 +9,7 @@ use Rattle.words.specs.Reading.{Read, got, refused, next_line, line_of, headed}
 use Rattle.words.specs.Words.{Word, each, within}
 use Rattle.words.specs.declared.text_reader.TextReader.{TextReader}
 use Rattle.conditions.specs.Variables.{Var, names, size_at}
-use Rattle.conditions.specs.Conditions.{known_tree, Tree}
+use Rattle.conditions.specs.Conditions.{known_tree}
 use Rattle.reader.specs.Answers.{Tells}
 use Rattle.reader.specs.Faults.{FaultSays}
 use Rattle.reader.specs.RuleSets.{Rule}
@@ -17,7 +17,6 @@ use Rattle.reader.specs.Sections.{many, section}
 use Rattle.reader.specs.VariableLines.{product}
 use Rattle.reader.specs.BlockLines.{known_effect, small_effect, fitting_effect, block_line, block_head, block}
 use Rattle.reader.specs.CaseWords.{rule}
-use Rattle.reader.specs.declared.rule_set.Effect.{Effect}
 use Rattle.reader.specs.declared.fault.ReadFault.{ReadFault}
 use Rattle.reader.proofs.FaultFacts.{fault_implies}
 
@@ -28,10 +27,6 @@ part_refused f p q r z e is h k =
     rw (x.1, x.2) (fault_implies e (λ item at. q ≡ refused item at) (λ item at. p ≡ refused item at) k h)
 
 module _ {A : Type 0} (step : List A → ℕ → List (List ℕ) → Read A) where
-  -- i of k turns are done
-  abbrev pub Going : ℕ → ℕ → List A → ℕ → List (List ℕ) → Read (List A) → Type 0
-  Going k i xs n ls whole = many step (k - i) xs n ls ≡ whole
-
   more_left : (k i : ℕ) → i < k → k - i ≡ suc (k - (i + 1))
   more_left k i lt = omega arith
 
@@ -44,12 +39,6 @@ module _ {A : Type 0} (step : List A → ℕ → List (List ℕ) → Read A) whe
 
     pub turn : (x : A) (ys : List A) (m : ℕ) (more : List (List ℕ)) → step xs n ls ≡ got x m more → ys ≡ xs ++ x ∷ [] → many step (k - (i + 1)) ys m more ≡ whole
     turn x ys m more e is = ap (λ zs. many step (k - (i + 1)) zs m more) is ∙ sym (rw e) ∙ opened
-
-  -- all turns are done
-  pub turns_done : (k i : ℕ) (xs : List A) (n : ℕ) (ls : List (List ℕ)) (whole : Read (List A)) → many step (k - i) xs n ls ≡ whole → k ≤ i → whole ≡ got xs n ls
-  turns_done k i xs n ls whole going le =
-      let none : k - i ≡ zero = omega arith in
-      sym going ∙ ap (λ j. many step j xs n ls) none
 
   -- a section whose count passes is what its turns give
   pub section_is : (w : Word) (ok : ℕ → Bool) (n k m : ℕ) (ls more : List (List ℕ)) → line_of (headed w) n ls ≡ got k m more → ok k ≡ true → section w ok step n ls ≡ many step k [] m more

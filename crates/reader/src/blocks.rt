@@ -122,6 +122,7 @@ impl Scope<'_, '_> {
     {
         let count = self.block_head(reader, i)?;
         let mut cases = Vec::new(self.heap);
+        // Kept: tried as a chain into `try_collect`, of which the proof does not learn what it leaves of the reader.
         for _j in 0..count {
             let case = self.block_line(reader, i)?;
             cases.push(case)?;
@@ -138,6 +139,7 @@ impl Scope<'_, '_> {
             return Err(ReadFault::Limit(reader.line));
         }
         let mut out = Vec::new(self.heap);
+        // Kept: tried as a chain into `try_collect`, of which the proof does not learn what it leaves of the reader.
         for i in 0..count {
             let block = self.block(reader, i)?;
             out.push(block)?;

@@ -39,6 +39,7 @@ impl Scope<'_, '_> {
             return Err(ReadFault::Limit(reader.line));
         }
         let mut out = Vec::new(self.heap);
+        // Kept: tried as a chain into `try_collect`, of which the proof does not learn what it leaves of the reader.
         for _i in 0..count {
             let cond = self.break_line(reader)?;
             out.push(cond)?;

@@ -106,6 +106,7 @@ pub(crate) fn variables<'a>(
     }
     let mut known = Vec::new(heap);
     let mut states = 1;
+    // Kept: each line is read against the variables before it and their states, so a chain would carry both in a fold.
     for _i in 0..count {
         let v = variable(reader, heap, &known, states)?;
         states *= usize::from(v.size);

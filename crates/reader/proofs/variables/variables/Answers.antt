@@ -3,9 +3,9 @@ use Rattle.std.proofs.lemmas.List.{map_push}
 use Rattle.words.specs.Words.{within}
 use Rattle.words.specs.Lines.{lines_of}
 use Rattle.conditions.specs.Variables.{var_of}
-use Rattle.reader.specs.VariableLines.{variable, product, section_variables}
+use Rattle.reader.specs.VariableLines.{variable, product}
 use Rattle.reader.specs.Meanings.{vars_in}
-use Rattle.reader.proofs.SectionFacts.{part_refused, turn_fails, turn, turns_done, section_is, product_push, within_range}
+use Rattle.reader.proofs.SectionFacts.{part_refused, turn_fails, turn, section_is, product_push, within_range}
 use Rattle.reader.proofs.variables.variables.Goals as goal
 
 pub returns-in_err-v : goal.returns-in_err-v
@@ -22,8 +22,3 @@ loop-i-preserved c =
       rw c.from-states.ensures c.in_ok-v.ensures.bounded,
       (λ i. c.loop-i.invariant.2 i * c.from-states.ensures i) ∙ sym (product_push _ (var_of c.in_ok-v.v)) ∙ ap product (sym pushed),
     )
-
-pub returns : goal.returns
-returns c =
-    let ok : within 1 12 c.in_ok-count.count ≡ true = within_range 1 12 _ c.new.ensures.start c.new.ensures.end c.if-not-contains.ensures.cases in
-    section_is variable (codes "variables") (within 1 12) c.args.reader.now.line _ _ (lines_of c.args.reader.now) _ c.in_ok-count.ensures ok ∙ turns_done variable _ _ _ _ _ _ c.loop-i.invariant.0 c.loop-i-test.false

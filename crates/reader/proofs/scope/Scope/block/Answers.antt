@@ -4,7 +4,7 @@ use Rattle.words.specs.Lines.{lines_of}
 use Rattle.conditions.specs.Variables.{vars_of}
 use Rattle.reader.specs.BlockLines.{block_line}
 use Rattle.reader.specs.Meanings.{rule_of, rules_in}
-use Rattle.reader.proofs.SectionFacts.{part_refused, turn_fails, turn, turns_done, block_is}
+use Rattle.reader.proofs.SectionFacts.{part_refused, turn_fails, turn, block_is}
 use Rattle.reader.proofs.scope.Scope.block.Goals as goal
 
 pub returns-in_err-case : goal.returns-in_err-case

@@ -3,7 +3,7 @@ use Rattle.std.proofs.lemmas.List.{map_push, length_push}
 use Rattle.std.proofs.lemmas.Bool.{eq-eqb}
 use Rattle.words.specs.Lines.{lines_of}
 use Rattle.conditions.specs.Variables.{vars_of}
-use Rattle.reader.specs.BlockLines.{block, section_blocks}
+use Rattle.reader.specs.BlockLines.{block}
 use Rattle.reader.specs.Meanings.{rules_in, blocks_in}
 use Rattle.reader.proofs.SectionFacts.{part_refused, turn_fails, turn, section_is}
 use Rattle.reader.proofs.scope.Scope.blocks.Goals as goal
