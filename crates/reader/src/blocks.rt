@@ -62,8 +62,10 @@ fn title<'a>(line: &mut Line<'a>) -> Option<BlockTitle<'a>>
     if line.next_token().is_some() || !is_name(name) {
         return None;
     }
-    let count = number_of(count)?;
-    Some(BlockTitle { name, count })
+    Some(BlockTitle {
+        name,
+        count: number_of(count)?,
+    })
 }
 
 impl Scope<'_, '_> {
