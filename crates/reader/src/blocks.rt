@@ -124,7 +124,7 @@ impl Scope<'_, '_> {
     {
         let count = self.block_head(reader, i)?;
         let mut cases = Vec::new(self.heap);
-        // Kept: tried as a chain into `try_collect`, of which the proof does not learn what it leaves of the reader.
+        // Kept: as in `breaks`, the proof does not learn what a chain into `try_collect` leaves of the reader.
         for _j in 0..count {
             let case = self.block_line(reader, i)?;
             cases.push(case)?;
@@ -141,7 +141,7 @@ impl Scope<'_, '_> {
             return Err(ReadFault::Limit(reader.line));
         }
         let mut out = Vec::new(self.heap);
-        // Kept: tried as a chain into `try_collect`, of which the proof does not learn what it leaves of the reader.
+        // Kept: as in `breaks`, the proof does not learn what a chain into `try_collect` leaves of the reader.
         for i in 0..count {
             let block = self.block(reader, i)?;
             out.push(block)?;

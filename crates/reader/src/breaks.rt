@@ -39,7 +39,7 @@ impl Scope<'_, '_> {
             return Err(ReadFault::Limit(reader.line));
         }
         let mut out = Vec::new(self.heap);
-        // Kept: tried as a chain into `try_collect`, of which the proof does not learn what it leaves of the reader.
+        // Kept: tried as a chain into `try_collect`, but the proof does not learn what that leaves of the reader.
         for _i in 0..count {
             let cond = self.break_line(reader)?;
             out.push(cond)?;
