@@ -1,13 +1,19 @@
 -- Results of a line, one after another.
-use Rattle.std.proofs.Common.{◌≡◌, ℕ, zero, suc, ◌<◌, ◌≤◌, true, false, List, [], ◌∷◌, ◌++◌, length, Some, None, codes, Option, sym, refl, subst, arith}
+use Rattle.std.proofs.Common.{◌≡◌, ℕ, zero, suc, ◌<◌, ◌≤◌, Bool, true, false, ◌&&◌, List, [], ◌∷◌, ◌++◌, length, Some, None, codes, Option, sym, refl, ap, subst, arith}
 use Rattle.std.proofs.lemmas.Bool.{cond_both}
-use Rattle.words.specs.Words.{Word, opens_with, after_first, is_name, number_of}
+use Rattle.std.specs.List.{list_all}
+use Rattle.words.specs.Words.{Word, each, opens_with, after_first, is_name, number_of}
 use Rattle.words.proofs.WordFacts.{after_shorter}
 use Rattle.conditions.specs.Conditions.{Tree}
 use Rattle.conditions.specs.Parser.{ended, condition}
 use Rattle.conditions.specs.Variables.{place}
 use Rattle.reader.specs.CaseWords.{effect, effects, added, plus, plainly, rule}
 use Rattle.reader.specs.declared.rule_set.Effect.{Effect}
+
+-- what the library calls `list_all` is `each`
+pub all_is_each : {A : Type 0} (f : A → Bool) (xs : List A) → list_all f xs ≡ each f xs
+all_is_each f [] = refl
+all_is_each f (x ∷ xs) = ap (λ t. f x && t) (all_is_each f xs)
 
 -- fewer than n words are left
 abbrev Leaves : ℕ → Option (Effect × List Word) → Type 0

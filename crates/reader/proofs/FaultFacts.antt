@@ -1,14 +1,11 @@
 -- Faults that come from a part.
-use Rattle.std.proofs.Common.{◌≡◌, ℕ, None, Option, refl, ap, ◌∙◌}
+use Rattle.std.proofs.Common.{◌≡◌, ℕ, None, Option, ap, ◌∙◌}
 use Rattle.words.specs.Faults.{word_refusal}
 use Rattle.words.specs.declared.fault.WordFault.{WordFault}
 use Rattle.words.specs.declared.fault.WordFault.TheVariants.{Form}
-use Rattle.conditions.specs.Answers.{Unformed}
-use Rattle.conditions.specs.declared.fault.ConditionFault.{ConditionFault}
-use Rattle.reader.specs.Faults.{FaultSays, from_condition}
+use Rattle.reader.specs.Faults.{FaultSays}
 use Rattle.reader.specs.declared.fault.ReadFault.{ReadFault}
 use Rattle.reader.specs.declared.fault.ReadFault.TheVariants.{Word, Limit, Twice, Undeclared, Value, Larger, Product, Memory}
-use Rattle.conditions.specs.declared.fault.ConditionFault.TheVariants as condition
 
 pub fault_implies : (e : ReadFault) (P Q : ℕ → ℕ → Type 0) → ((i k : ℕ) → P i k → Q i k) → FaultSays e P → FaultSays e Q
 fault_implies (Word e) P Q f h = f (word_refusal e).number (word_refusal e).place h
@@ -27,7 +24,3 @@ part_fails e p q m n same k h =
 
 pub word_fails : {A B : Type 0} (e : WordFault) (p : Option A) (q : Option B) (m n : ℕ) → m ≡ n → (p ≡ None → q ≡ None) → (p ≡ None) × (e ≡ Form m) → FaultSays (Word e) (λ item at. (q ≡ None) × (item ≡ 4) × (at ≡ n))
 word_fails e p q m n same k h = (k h.0, ap (λ f. (word_refusal f).number) h.1, ap (λ f. (word_refusal f).place) h.1 ∙ same)
-
-pub condition_fails : {A B : Type 0} (e : ConditionFault) (p : Option A) (q : Option B) (n : ℕ) → (p ≡ None → q ≡ None) → Unformed p n e → FaultSays (from_condition e) (λ item at. (q ≡ None) × (item ≡ 4) × (at ≡ n))
-condition_fails (condition.Word f) p q n k h = word_fails f p q n n refl k h
-condition_fails condition.Memory p q n k h = tt

@@ -1,6 +1,5 @@
 pub mod FaultFacts
 pub mod StartFacts
-pub mod DeclarationFacts
 pub mod EffectFacts
 pub mod SectionFacts
 pub mod CaseFacts

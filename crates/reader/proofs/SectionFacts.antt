@@ -1,28 +1,32 @@
 -- Sections, line by line.
-use Rattle.std.proofs.Common.{◌≡◌, ℕ, zero, suc, ◌+◌, ◌-◌, ◌*◌, ◌<◌, ◌≤◌, Bool, true, false, ◌&&◌, List, [], ◌∷◌, ◌++◌, length, Some, Option, sym, ap, ◌∙◌, mul_assoc, one-mul, mul-one, arith}
+use Rattle.std.proofs.Common.{◌≡◌, ℕ, suc, ◌+◌, ◌-◌, ◌*◌, ◌<◌, Bool, true, false, ◌&&◌, List, [], ◌∷◌, ◌++◌, length, Some, Option, Result, sym, ap, ◌∙◌, mul_assoc, one-mul, mul-one, arith}
+use Rattle.std.proofs.lemmas.Bool.{and_from, le-leb}
+use Rattle.std.proofs.lemmas.Map.Keys.{le_from_is_le}
+use Rattle.std.proofs.lemmas.Result.{err_from_is_err_and}
+use Rattle.std.specs.Result.{IsErrAnd}
+use Rattle.std.specs.Ordering.{nat_cmp, is_le}
 use Rattle.words.specs.Reading.{Read, got, refused, next_line, line_of, headed}
-use Rattle.words.specs.Words.{Word, each}
+use Rattle.words.specs.Words.{Word, each, within}
+use Rattle.words.specs.declared.text_reader.TextReader.{TextReader}
 use Rattle.conditions.specs.Variables.{Var, names, size_at}
-use Rattle.conditions.specs.Conditions.{known_tree, Tree}
+use Rattle.conditions.specs.Conditions.{known_tree}
+use Rattle.reader.specs.Answers.{Tells}
 use Rattle.reader.specs.Faults.{FaultSays}
 use Rattle.reader.specs.RuleSets.{Rule}
 use Rattle.reader.specs.Sections.{many, section}
 use Rattle.reader.specs.VariableLines.{product}
 use Rattle.reader.specs.BlockLines.{known_effect, small_effect, fitting_effect, block_line, block_head, block}
 use Rattle.reader.specs.CaseWords.{rule}
-use Rattle.reader.specs.declared.rule_set.Effect.{Effect}
 use Rattle.reader.specs.declared.fault.ReadFault.{ReadFault}
 use Rattle.reader.proofs.FaultFacts.{fault_implies}
 
--- a fault of a part is one of the whole
-pub comes_through : {A B : Type 0} (e : ReadFault) (p : Read A) (q : Read B) → ((item at : ℕ) → p ≡ refused item at → q ≡ refused item at) → FaultSays e (λ item at. p ≡ refused item at) → FaultSays e (λ item at. q ≡ refused item at)
-comes_through e p q k h = fault_implies e (λ item at. p ≡ refused item at) (λ item at. q ≡ refused item at) k h
+-- what a `?` returns where a part fails: its fault is one of the whole
+pub part_refused : {A B C : Type 0} (f : A → B) (p : Read B) (q : Read C) (r : Result A ReadFault) (z : TextReader) (e : ReadFault) → IsErrAnd r (λ x. x ≡ e) → FaultSays e (λ item at. q ≡ refused item at) → ((item at : ℕ) → q ≡ refused item at → p ≡ refused item at) → Tells f p r z
+part_refused f p q r z e is h k =
+    let x = err_from_is_err_and r is in
+    rw (x.1, x.2) (fault_implies e (λ item at. q ≡ refused item at) (λ item at. p ≡ refused item at) k h)
 
 module _ {A : Type 0} (step : List A → ℕ → List (List ℕ) → Read A) where
-  -- i of k turns are done
-  abbrev pub Going : ℕ → ℕ → List A → ℕ → List (List ℕ) → Read (List A) → Type 0
-  Going k i xs n ls whole = many step (k - i) xs n ls ≡ whole
-
   more_left : (k i : ℕ) → i < k → k - i ≡ suc (k - (i + 1))
   more_left k i lt = omega arith
 
@@ -35,12 +39,6 @@ module _ {A : Type 0} (step : List A → ℕ → List (List ℕ) → Read A) whe
 
     pub turn : (x : A) (ys : List A) (m : ℕ) (more : List (List ℕ)) → step xs n ls ≡ got x m more → ys ≡ xs ++ x ∷ [] → many step (k - (i + 1)) ys m more ≡ whole
     turn x ys m more e is = ap (λ zs. many step (k - (i + 1)) zs m more) is ∙ sym (rw e) ∙ opened
-
-  -- all turns are done
-  pub turns_done : (k i : ℕ) (xs : List A) (n : ℕ) (ls : List (List ℕ)) (whole : Read (List A)) → many step (k - i) xs n ls ≡ whole → k ≤ i → whole ≡ got xs n ls
-  turns_done k i xs n ls whole going le =
-      let none : k - i ≡ zero = omega arith in
-      sym going ∙ ap (λ j. many step j xs n ls) none
 
   -- a section whose count passes is what its turns give
   pub section_is : (w : Word) (ok : ℕ → Bool) (n k m : ℕ) (ls more : List (List ℕ)) → line_of (headed w) n ls ≡ got k m more → ok k ≡ true → section w ok step n ls ≡ many step k [] m more
@@ -71,9 +69,11 @@ module _ (vs : List Var) (i n : ℕ) (ls : List (List ℕ)) (r : Rule) (m : ℕ)
 pub block_is : (vs : List Var) (i n k m : ℕ) (ls more : List (List ℕ)) → block_head vs i n ls ≡ got k m more → block vs i n ls ≡ many (λ _. block_line vs i) k [] m more
 block_is vs i n k m ls more e = rw e
 
-pub known_at : (k l : ℕ) (t : Tree) (es : List Effect) (b : Bool) → k ≡ l → b ≡ (known_tree k t && each (known_effect k) es) → (known_tree l t && each (known_effect l) es) ≡ b
-known_at k l t es b e h = ap (λ j. known_tree j t && each (known_effect j) es) (sym e) ∙ sym h
+-- what a test of a number of the code says of the number that it stands for
+pub test_at : (test : ℕ → Bool) {k l : ℕ} {b : Bool} → k ≡ l → b ≡ test k → test l ≡ b
+test_at test e h = ap test (sym e) ∙ sym h
 
--- what a test of a part of the code says of the list that it stands for
-pub tested_at : {S : Type 0} (test : S → Effect → Bool) (s z : S) (xs es : List Effect) (b : Bool) → s ≡ z → xs ≡ es → b ≡ each (test s) xs → each (test z) es ≡ b
-tested_at test s z xs es b e d h = (λ i. each (test (sym e i)) (sym d i)) ∙ sym h
+-- a number that a range of the code contains
+pub within_range : (low high x : ℕ) {a b : ℕ} → a ≡ low → b ≡ high → (is_le (nat_cmp a x) ≡ true) × (is_le (nat_cmp x b) ≡ true) → within low high x ≡ true
+within_range low high x {a} {b} s e h =
+    and_from _ _ (le-leb low x (omega (arith, s, le_from_is_le a x h.0))) (le-leb x high (omega (arith, e, le_from_is_le x b h.1)))

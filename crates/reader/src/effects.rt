@@ -1,7 +1,6 @@
 //! The results of a block's line: what the block's variable may become.
 ghost use Rattle.std.specs.Prelude.{◌≡◌, ℕ, ◌≤◌, [], length, vec_items};
 ghost use Rattle.words.specs.Lines.{left};
-ghost use Rattle.words.specs.Words.{each};
 ghost use Rattle.conditions.specs.Answers.{Parses};
 ghost use Rattle.conditions.specs.Variables.{names_of, vars_of};
 ghost use Rattle.reader.specs.Answers.{Forms};
@@ -10,65 +9,56 @@ ghost use Rattle.reader.specs.CaseWords.{effect, effects};
 
 use crate::fault::ReadFault;
 use crate::rule_set::Effect;
+use crate::scope::Scope;
 use conditions::variable::{Variable, place_of, size_at};
-use std::alloc::Global;
 use words::fault::WordFault;
 use words::line::Line;
 use words::word::{is_name, number_of};
 
-/// A number, a name, or a name, `+` and a number.
-fn effect(line: &mut Line<'_>, known: &[Variable<'_>]) -> Result<Effect, WordFault>
-    ensures says { Parses (λ e. e) (effect (names_of known.now) (left line.old)) line.old.number result (left line.new) }
-    ensures same { line.new.number ≡ line.old.number }
-{
-    let fault = WordFault::Form(line.number);
-    let Some(first) = line.next_token() else {
-        return Err(fault);
-    };
-    if !is_name(first.text) {
-        return match number_of(first.text) {
-            Some(n) => Ok(Effect::Plain(n)),
-            None => Err(fault),
-        };
-    }
-    let place = place_of(known, first.text);
-    if !line.skip(b"+") {
-        return Ok(Effect::Sum(place, 0));
-    }
-    let Some(second) = line.next_token() else {
-        return Err(fault);
-    };
-    match number_of(second.text) {
-        Some(n) => Ok(Effect::Sum(place, n)),
-        None => Err(fault),
-    }
-}
-
-/// Results parted by `,`, up to the end of the line.
-pub(crate) fn effects(
-    line: &mut Line<'_>,
-    heap: Global,
-    known: &[Variable<'_>],
-) -> Result<Vec<Effect>, ReadFault>
-    ensures { (n : ℕ) → length (left line.old) ≤ n → Forms vec_items (effects (names_of known.now) n [] (left line.old)) line.old.number result }
-{
-    let fault = WordFault::Form(line.number);
-    let mut out = Vec::new(heap);
-    'more: loop {
-        let e = effect(line, known)?;
-        out.push(e)?;
-        if !line.skip(b",") {
-            break;
+impl Scope<'_, '_> {
+    /// A number, a name, or a name, `+` and a number.
+    fn effect(&self, line: &mut Line<'_>) -> Result<Effect, WordFault>
+        ensures says { Parses (λ e. e) (effect (names_of self.now.known.now) (left line.old)) line.old.number result (left line.new) }
+        ensures same { line.new.number ≡ line.old.number }
+    {
+        let fault = WordFault::Form(line.number);
+        let first = line.next_token().ok_or(fault)?;
+        if !is_name(first.text) {
+            let n = number_of(first.text).ok_or(fault)?;
+            return Ok(Effect::Plain(n));
         }
+        let place = place_of(self.known, first.text);
+        if !line.skip(b"+") {
+            return Ok(Effect::Sum(place, 0));
+        }
+        let second = line.next_token().ok_or(fault)?;
+        let n = number_of(second.text).ok_or(fault)?;
+        Ok(Effect::Sum(place, n))
     }
-    if line.next_token().is_some() {
-        return Err(ReadFault::Word(fault));
+
+    /// Results parted by `,`, up to the end of the line.
+    pub(crate) fn effects(&self, line: &mut Line<'_>) -> Result<Vec<Effect>, ReadFault>
+        ensures { (n : ℕ) → length (left line.old) ≤ n → Forms vec_items (effects (names_of self.now.known.now) n [] (left line.old)) line.old.number result }
+    {
+        let fault = WordFault::Form(line.number);
+        let mut out = Vec::new(self.heap);
+        loop {
+            let e = self.effect(line)?;
+            out.push(e)?;
+            if !line.skip(b",") {
+                break;
+            }
+        }
+        if line.next_token().is_some() {
+            return Err(ReadFault::Word(fault));
+        }
+        Ok(out)
     }
-    Ok(out)
 }
 
 impl Effect {
-    fn is_known(self, count: usize) -> bool
+    /// Whether the variable, if it names one, is one of the first `count`.
+    pub(crate) fn is_known(self, count: usize) -> bool
         ensures { result ≡ known_effect count self }
     {
         match self {
@@ -77,7 +67,8 @@ impl Effect {
         }
     }
 
-    fn is_small(self, size: u16) -> bool
+    /// Whether the number, if it is one, is below the size.
+    pub(crate) fn is_small(self, size: u16) -> bool
         ensures { result ≡ small_effect size self }
     {
         match self {
@@ -86,7 +77,8 @@ impl Effect {
         }
     }
 
-    fn is_fitting(self, known: &[Variable<'_>], size: u16) -> bool
+    /// Whether the variable, if it names one, is no larger than the size.
+    pub(crate) fn is_fitting(self, known: &[Variable<'_>], size: u16) -> bool
         ensures { result ≡ fitting_effect (vars_of known.now) size self }
     {
         match self {
@@ -94,40 +86,4 @@ impl Effect {
             Effect::Sum(k, _) => size_at(known, k) <= size,
         }
     }
-}
-
-/// Whether each names a variable.
-pub(crate) fn all_known(list: &[Effect], count: usize) -> bool
-    ensures { result ≡ each (known_effect count) list.now }
-{
-    for e in list {
-        if !e.is_known(count) {
-            return false;
-        }
-    }
-    true
-}
-
-/// Whether each number is below the size.
-pub(crate) fn all_small(list: &[Effect], size: u16) -> bool
-    ensures { result ≡ each (small_effect size) list.now }
-{
-    for e in list {
-        if !e.is_small(size) {
-            return false;
-        }
-    }
-    true
-}
-
-/// Whether no variable is larger than the size.
-pub(crate) fn all_fitting(list: &[Effect], known: &[Variable<'_>], size: u16) -> bool
-    ensures { result ≡ each (fitting_effect (vars_of known.now) size) list.now }
-{
-    for e in list {
-        if !e.is_fitting(known, size) {
-            return false;
-        }
-    }
-    true
 }

@@ -6,5 +6,6 @@ mod breaks;
 mod effects;
 pub mod fault;
 pub mod rule_set;
+mod scope;
 pub mod text;
 mod variables;

@@ -5,10 +5,9 @@ ghost use Rattle.reader.specs.Meanings.{rule_set_of};
 ghost use Rattle.reader.specs.Says.{ReadsExactly};
 ghost use Rattle.reader.specs.WholeTexts.{sections};
 
-use crate::blocks::blocks;
-use crate::breaks::breaks;
 use crate::fault::ReadFault;
 use crate::rule_set::RuleSet;
+use crate::scope::Scope;
 use crate::variables::variables;
 use std::alloc::Global;
 use words::text::check_text;
@@ -19,8 +18,12 @@ fn sections<'a>(reader: &mut TextReader<'a>, heap: Global) -> Result<RuleSet<'a>
     ensures { Tells rule_set_of (sections reader.old.line (lines_of reader.old)) result reader.new }
 {
     let variables = variables(reader, heap)?;
-    let blocks = blocks(reader, heap, &variables)?;
-    let breaks = breaks(reader, heap, &variables)?;
+    let scope = Scope {
+        known: &variables,
+        heap,
+    };
+    let blocks = scope.blocks(reader)?;
+    let breaks = scope.breaks(reader)?;
     reader.ending()?;
     Ok(RuleSet {
         variables,

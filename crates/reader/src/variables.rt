@@ -8,6 +8,7 @@ ghost use Rattle.reader.specs.VariableLines.{numbers, declaration, rising, varia
 
 use crate::fault::ReadFault;
 use conditions::variable::{Variable, is_declared};
+use rules::list::MOST_STATES;
 use std::alloc::Global;
 use words::fault::WordFault;
 use words::line::Line;
@@ -23,21 +24,11 @@ const LEAST_SIZE: u16 = 2;
 /// The most values that a variable may have.
 const MOST_SIZE: u16 = 16;
 
-/// The most states: what the product of the sizes may come to.
-const MOST_STATES: u32 = 4096;
-
 /// Whether each is below `size`, and above the one before.
 fn is_rising(values: &[u16], size: u16) -> bool
     ensures { result ≡ rising 0 size values.now }
 {
-    let mut low = 0usize;
-    for v in values {
-        if usize::from(*v) < low || *v >= size {
-            return false;
-        }
-        low = usize::from(*v) + 1;
-    }
-    true
+    values.is_sorted_by(|a, b| *a < *b) && values.iter().all(|v| *v < size)
 }
 
 /// The numbers that the rest of the line is.
@@ -47,9 +38,7 @@ fn numbers(line: &mut Line<'_>, heap: Global) -> Result<Vec<u16>, ReadFault>
     let fault = WordFault::Form(line.number);
     let mut out = Vec::new(heap);
     while let Some(token) = line.next_token() {
-        let Some(n) = number_of(token.text) else {
-            return Err(ReadFault::Word(fault));
-        };
+        let n = number_of(token.text).ok_or(fault)?;
         out.push(n)?;
     }
     Ok(out)
@@ -60,19 +49,13 @@ fn declaration<'a>(line: &mut Line<'a>, heap: Global) -> Result<Variable<'a>, Re
     ensures { Forms var_of (declaration (left line.old)) line.old.number result }
 {
     let fault = WordFault::Form(line.number);
-    let Some(name) = line.next_token() else {
-        return Err(ReadFault::Word(fault));
-    };
-    let Some(second) = line.next_token() else {
-        return Err(ReadFault::Word(fault));
-    };
+    let name = line.next_token().ok_or(fault)?;
+    let second = line.next_token().ok_or(fault)?;
     let starts = numbers(line, heap)?;
     if starts.is_empty() || !is_name(name.text) {
         return Err(ReadFault::Word(fault));
     }
-    let Some(size) = number_of(second.text) else {
-        return Err(ReadFault::Word(fault));
-    };
+    let size = number_of(second.text).ok_or(fault)?;
     Ok(Variable {
         name: name.text,
         size,
@@ -85,7 +68,7 @@ fn variable<'a>(
     reader: &mut TextReader<'a>,
     heap: Global,
     known: &[Variable<'a>],
-    states: u32,
+    states: usize,
 ) -> Result<Variable<'a>, ReadFault>
     requires small { states ≤ 4096 }
     requires product { states ≡ product (vars_of known.now) }
@@ -95,7 +78,7 @@ fn variable<'a>(
     let mut line = reader.next_line()?;
     let number = line.number;
     let v = declaration(&mut line, heap)?;
-    if v.size < LEAST_SIZE || v.size > MOST_SIZE {
+    if !(LEAST_SIZE..=MOST_SIZE).contains(&v.size) {
         return Err(ReadFault::Limit(number));
     }
     if is_declared(known, v.name) {
@@ -104,7 +87,7 @@ fn variable<'a>(
     if !is_rising(&v.starts, v.size) {
         return Err(ReadFault::Value(number));
     }
-    if states * u32::from(v.size) > MOST_STATES {
+    if states * usize::from(v.size) > MOST_STATES {
         return Err(ReadFault::Product(number));
     }
     Ok(v)
@@ -118,14 +101,15 @@ pub(crate) fn variables<'a>(
     ensures { Tells vars_in (section_variables reader.old.line (lines_of reader.old)) result reader.new }
 {
     let count = reader.heading(b"variables")?;
-    if count < 1 || count > MOST_VARIABLES {
+    if !(1..=MOST_VARIABLES).contains(&count) {
         return Err(ReadFault::Limit(reader.line));
     }
     let mut known = Vec::new(heap);
-    let mut states = 1u32;
+    let mut states = 1;
+    // Kept: each line is read against the variables before it and their states, so a chain would carry both in a fold.
     for _i in 0..count {
         let v = variable(reader, heap, &known, states)?;
-        states *= u32::from(v.size);
+        states *= usize::from(v.size);
         known.push(v)?;
     }
     Ok(known)

@@ -3,25 +3,18 @@ use Rattle.std.proofs.lemmas.Result.{err_from_is_err_and}
 use Rattle.words.specs.Lines.{left}
 use Rattle.words.proofs.WordFacts.{after_shorter}
 use Rattle.conditions.specs.Conditions.{tree}
-use Rattle.conditions.specs.Parser.{condition, depth}
+use Rattle.conditions.specs.Parser.{depth}
 use Rattle.conditions.specs.Grammar.{or_level}
 use Rattle.conditions.specs.Variables.{names_of}
 use Rattle.reader.specs.CaseWords.{effects, rule}
-use Rattle.reader.proofs.FaultFacts.{part_fails, condition_fails}
+use Rattle.reader.proofs.FaultFacts.{part_fails}
 use Rattle.reader.proofs.EffectFacts.{rule_fails}
-use Rattle.reader.proofs.blocks.rule.Goals as goal
-
-pub returns-in_err-cond : goal.returns-in_err-cond
-returns-in_err-cond c =
-    let p = err_from_is_err_and c.from_residual.result c.from_residual.ensures.1 in
-    let ns = names_of c.args.known.now in
-    let ws = left c.args.line.now in
-    rw (p.1, p.2) (condition_fails c.in_err-cond.field-0.0 (condition ns ws) (rule ns ws) c.args.line.now.number (λ none. rw none) (c.in_err-cond.ensures.says (depth or_level ws) (omega arith)))
+use Rattle.reader.proofs.scope.Scope.rule.Goals as goal
 
 pub returns-in_err-effects : goal.returns-in_err-effects
 returns-in_err-effects c =
     let p = err_from_is_err_and c.from_residual-in_err-effects.result c.from_residual-in_err-effects.ensures.1 in
-    let ns = names_of c.args.known.now in
+    let ns = names_of c.args.self.now.known.now in
     let ws = left c.args.line.now in
     let rest = left c.disjunction.new.line in
     let is = c.in_ok-cond.ensures.says (depth or_level ws) (omega arith) in
