@@ -1,17 +1,14 @@
 -- The product of the class counts, as a fold that stays small.
-use Rattle.std.proofs.Common.{◌≡◌, ℕ, ◌*◌, ◌<◌, ◌≤◌, max, List, [], ◌∷◌, map, take, sym, ap, subst, ◌∙◌, mul_assoc, mul-one, one-mul, mul-le-mul, mul-le-mul_left, arith}
+use Rattle.std.proofs.Common.{◌≡◌, ℕ, ◌*◌, ◌<◌, ◌≤◌, max, List, [], ◌∷◌, take, sym, ap, subst, ◌∙◌, mul_assoc, mul-one, one-mul, mul-le-mul, mul-le-mul_left, arith}
 use denote.Ref.{Bor}
-use Rattle.std.specs.List.{fold, range_with_len}
-use Rattle.std.proofs.lemmas.List.{get_or-take, length-take-le}
-use Rattle.std.proofs.lemmas.List.FromFn.{fill_by_all}
+use Rattle.std.specs.List.{fold}
 use Rattle.columns.specs.Columns.{product}
 use Rattle.columns.proofs.Digits.{Positive}
 use Rattle.tuples.specs.Meaning.{count_of}
-use Rattle.columnsheet.specs.Joins.{counts_of}
-use Rattle.columnsheet.specs.Kept.{parts_of, class_count}
+use Rattle.columnsheet.specs.Kept.{class_count}
 use Rattle.columnsheet.specs.declared.parts.Parts.{Parts}
-use Rattle.columnsheet.proofs.JoinLoops.{sizes_positive}
-use Rattle.columnsheet.proofs.OwnTuples.{own_clusters, own_total}
+use Rattle.columnsheet.proofs.JoinLoops.{sizes_positive, counts_are}
+use Rattle.columnsheet.proofs.OwnTuples.{own_total}
 
 -- a factor that never makes a product smaller
 abbrev raised : ℕ → ℕ → ℕ
@@ -33,9 +30,6 @@ fold_product [] a = sym (mul-one a)
 fold_product (x ∷ xs) a = fold_product xs (a * x) ∙ mul_assoc a x (product xs)
 
 module _ (p : Parts) (m : ℕ) (all : m ≡ count_of p.tuples) where
-  counts_are : take m p.counts ≡ counts_of (count_of p.tuples) (parts_of p)
-  counts_are = fill_by_all (λ k. (parts_of p k).count) (take m p.counts) m 0 (length-take-le m p.counts (omega (arith, all, own_clusters p.tuples, p.each))) (λ k h. get_or-take m p.counts k 0 h) ∙ ap (λ n. map (λ k. (parts_of p k).count) (range_with_len 0 n)) all
-
   -- of any items that no fold that never falls makes more of than of the counts
   pub counts_fit : (xs : List (Bor ℕ)) (ys : List ℕ) → ((h : ℕ → ℕ → ℕ) (n : ℕ) → ((a y : ℕ) → a ≤ h a y) → fold (λ a x. h a x.now) n xs ≤ fold h n ys) → ys ≡ take m p.counts → fold (λ a x. a * x.now) 1 xs < 65536
   counts_fit xs ys most same =
@@ -44,9 +38,9 @@ module _ (p : Parts) (m : ℕ) (all : m ≡ count_of p.tuples) where
         fold_raised xs 1 1 (omega arith),
         most raised 1 raised_most,
         ap (fold raised 1) same,
-        raised_product (take m p.counts) 1 (subst Positive (sym counts_are) (sizes_positive p)) ∙ one-mul (product (take m p.counts)) ∙ ap product counts_are,
+        raised_product (take m p.counts) 1 (subst Positive (sym (counts_are p m all)) (sizes_positive p)) ∙ one-mul (product (take m p.counts)) ∙ ap product (counts_are p m all),
         own_total p,
       )
 
   pub counts_product : (r : ℕ) → r ≡ fold (λ a x. a * x) 1 (take m p.counts) → r ≡ class_count p
-  counts_product r is = is ∙ fold_product (take m p.counts) 1 ∙ one-mul (product (take m p.counts)) ∙ ap product counts_are
+  counts_product r is = is ∙ fold_product (take m p.counts) 1 ∙ one-mul (product (take m p.counts)) ∙ ap product (counts_are p m all)

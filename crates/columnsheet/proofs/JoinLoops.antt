@@ -1,20 +1,23 @@
 -- Class numbers and counts put together cluster by cluster.
-use Rattle.std.proofs.Common.{◌≡◌, ℕ, ◌+◌, ◌*◌, ◌<◌, ◌≤◌, min, cond, ◌&&◌, ltb, List, length, get_or, drop, sym, ap, ◌∙◌, subst, add-mul, one-mul, arith}
+use Rattle.std.proofs.Common.{◌≡◌, ℕ, ◌+◌, ◌*◌, ◌<◌, ◌≤◌, min, cond, ◌&&◌, ltb, List, length, map, take, get_or, drop, sym, ap, ◌∙◌, subst, add-mul, one-mul, arith}
 use Rattle.std.proofs.lemmas.Bool.{and_from, lt-ltb, cond-true}
+use Rattle.std.specs.List.{range_with_len}
+use Rattle.std.proofs.lemmas.List.{get_or-take, length-take-le}
+use Rattle.std.proofs.lemmas.List.FromFn.{fill_by_all}
 use Rattle.columns.specs.Columns.{product}
 use Rattle.columns.proofs.Digits.{Positive, product_positive}
 use Rattle.sheets.specs.Classes.{class}
-use Rattle.numbering.proofs.DigitLoops.{Adding, adding_more, adding_small, adding_all}
+use Rattle.numbering.proofs.DigitLoops.{Adding, adding_more, adding_small}
 use Rattle.tuples.specs.Meaning.{sizes_of, clusters_of, count_of}
 use Rattle.tuples.specs.Tables.{LowestTuple}
 use Rattle.tuples.specs.Tuples.{width, tuple, part, tuples_before}
 use Rattle.tuples.specs.declared.tuple.Tuples.{Tuples}
 use Rattle.tuples.proofs.Widths.{before_more, positive_drop}
 use Rattle.columnsheet.specs.Joins.{counts_of, cluster_classes}
-use Rattle.columnsheet.specs.Kept.{parts_of, class_number}
+use Rattle.columnsheet.specs.Kept.{parts_of}
 use Rattle.columnsheet.specs.declared.parts.Parts.{Parts}
 use Rattle.columnsheet.proofs.JoinFacts.{over_length, over_at, counts_positive}
-use Rattle.columnsheet.proofs.OwnTuples.{own_grid, own_some, own_end, own_lawful, own_sized, own_total}
+use Rattle.columnsheet.proofs.OwnTuples.{own_grid, own_some, own_end, own_lawful, own_sized, own_total, own_clusters}
 
 module _ (p : Parts) where
   abbrev sizes : List ℕ
@@ -47,38 +50,42 @@ module _ (x : Tuples) (k : ℕ) (hk : k < count_of x) where
   pub part_is : (s own r : ℕ) → s < product (sizes_of x) → own ≡ cond (ltb s (product (sizes_of x)) && ltb k (count_of x)) (tuple (sizes_of x) (clusters_of x) k s) 0 → LowestTuple (sizes_of x) (clusters_of x) (count_of x) k own r → r ≡ part (sizes_of x) (clusters_of x) k s
   part_is s own r hs told low = low.found s hk hs (sym (tuple_is s own hs told))
 
--- one cluster more of a state's class number
-module _ (p : Parts) (s : ℕ) (hs : s < product (sizes_of p.tuples)) where
-  abbrev classes : List ℕ
-  classes = cluster_classes (count_of p.tuples) (tuple (sizes_of p.tuples) (clusters_of p.tuples)) (parts_of p) s
+module _ (p : Parts) (m : ℕ) (all : m ≡ count_of p.tuples) where
+  -- the counts of the clusters, and nothing behind them
+  pub counts_are : take m p.counts ≡ counts_of (count_of p.tuples) (parts_of p)
+  counts_are = fill_by_all (λ k. (parts_of p k).count) (take m p.counts) m 0 (length-take-le m p.counts (omega (arith, all, own_clusters p.tuples, p.each))) (λ k h. get_or-take m p.counts k 0 h) ∙ ap (λ n. map (λ k. (parts_of p k).count) (range_with_len 0 n)) all
 
-  classes_length : length classes ≡ count_of p.tuples
-  classes_length = over_length (count_of p.tuples) (λ k. class (parts_of p k) (tuple (sizes_of p.tuples) (clusters_of p.tuples) k s))
+  -- one cluster more of a state's class number
+  module _ (s : ℕ) (hs : s < product (sizes_of p.tuples)) where
+    abbrev classes : List ℕ
+    classes = cluster_classes (count_of p.tuples) (tuple (sizes_of p.tuples) (clusters_of p.tuples)) (parts_of p) s
 
-  module _ (k own count : ℕ) (hk : k < count_of p.tuples) (there : own ≡ class (parts_of p k) (tuple (sizes_of p.tuples) (clusters_of p.tuples) k s)) (of : count ≡ get_or p.counts k 0) where
-    class_here : get_or classes k 0 ≡ own
-    class_here = over_at (count_of p.tuples) (λ k. class (parts_of p k) (tuple (sizes_of p.tuples) (clusters_of p.tuples) k s)) k hk ∙ sym there
+    classes_length : length classes ≡ count_of p.tuples
+    classes_length = over_length (count_of p.tuples) (λ k. class (parts_of p k) (tuple (sizes_of p.tuples) (clusters_of p.tuples) k s))
 
-    count_here : get_or (sizes p) k 0 ≡ count
-    count_here = counts_at p k hk ∙ sym of
+    module _ (k n : ℕ) (hk : k < count_of p.tuples) (inv : Adding (sizes p) classes k n) where
+      count_here : get_or (take m p.counts) k 0 ≡ get_or (sizes p) k 0
+      count_here = ap (λ l. get_or l k 0) counts_are
 
-    pub class_below : own < count
-    class_below = omega (arith, there, of, (own_lawful p k hk).below (tuple (sizes_of p.tuples) (clusters_of p.tuples) k s) (omega (arith, own_sized p k hk, (own_grid p.tuples).below k s hk hs)))
+      pub number_room : n * get_or (take m p.counts) k 0 + get_or (take m p.counts) k 0 ≤ 4096
+      number_room =
+          let d = get_or (sizes p) k 0 in
+          let lt : k < length (sizes p) = omega (arith, counts_length p) in
+          let small = adding_small (sizes p) classes k n lt (product_positive (drop (k + 1) (sizes p)) (positive_drop (k + 1) (sizes p) (sizes_positive p))) (own_total p) inv in
+          omega (arith, small, add-mul n 1 d, one-mul d, count_here, ap (λ c. n * c) count_here)
 
-    pub number_more : (n : ℕ) → Adding (sizes p) classes k n → Adding (sizes p) classes (k + 1) (n * count + own)
-    number_more n inv =
-        subst (λ c. Adding (sizes p) classes (k + 1) (n * c + own)) count_here
-        (subst (λ c. Adding (sizes p) classes (k + 1) (n * get_or (sizes p) k 0 + c)) class_here (adding_more (sizes p) classes k n (omega (arith, counts_length p)) (omega (arith, classes_length)) inv (omega (arith, class_here, count_here, class_below))))
+      -- by what is told of its tuple t and of the tuple's class
+      module _ (t own : ℕ) (tuple_told : t ≡ tuple (sizes_of p.tuples) (clusters_of p.tuples) k s) (class_told : own ≡ class (parts_of p k) t) where
+        class_here : get_or classes k 0 ≡ own
+        class_here = over_at (count_of p.tuples) (λ k. class (parts_of p k) (tuple (sizes_of p.tuples) (clusters_of p.tuples) k s)) k hk ∙ ap (class (parts_of p k)) (sym tuple_told) ∙ sym class_told
 
-  pub number_room : (k n count : ℕ) → k < count_of p.tuples → count ≡ get_or p.counts k 0 → Adding (sizes p) classes k n → n * count + count ≤ 4096
-  number_room k n count hk of inv =
-      let d = get_or (sizes p) k 0 in
-      let lt : k < length (sizes p) = omega (arith, counts_length p) in
-      let small = adding_small (sizes p) classes k n lt (product_positive (drop (k + 1) (sizes p)) (positive_drop (k + 1) (sizes p) (sizes_positive p))) (own_total p) inv in
-      omega (arith, small, add-mul n 1 d, one-mul d, counts_at p k hk ∙ sym of, ap (λ c. n * c) (counts_at p k hk ∙ sym of))
+        pub class_below : own < get_or (take m p.counts) k 0
+        class_below = omega (arith, class_told, count_here, counts_at p k hk, (own_lawful p k hk).below t (omega (arith, tuple_told, own_sized p k hk, (own_grid p.tuples).below k s hk hs)))
 
-  pub number_all : (k n : ℕ) → count_of p.tuples ≤ k → Adding (sizes p) classes k n → n ≡ class_number p s
-  number_all k n all inv = (adding_all (sizes p) classes k n (omega (arith, counts_length p)) (omega (arith, classes_length)) inv).0
+        pub number_more : Adding (sizes p) classes (k + 1) (n * get_or (take m p.counts) k 0 + own)
+        number_more =
+            subst (λ c. Adding (sizes p) classes (k + 1) (n * c + own)) (sym count_here)
+            (subst (λ c. Adding (sizes p) classes (k + 1) (n * get_or (sizes p) k 0 + c)) class_here (adding_more (sizes p) classes k n (omega (arith, counts_length p)) (omega (arith, classes_length)) inv (omega (arith, class_here, count_here, class_below))))
 
 -- where the tuples of the cluster k end, by what is told of it
 pub end_is : (x : Tuples) (k to : ℕ) → k < count_of x → to ≡ tuples_before (sizes_of x) (clusters_of x) (min (k + 1) (count_of x)) → to ≡ tuples_before (sizes_of x) (clusters_of x) (k + 1)

@@ -1,16 +1,13 @@
 -- The tuples of a cluster parted by its tests, one after the other.
-use Rattle.std.proofs.Common.{◌≡◌, ℕ, ◌+◌, ◌-◌, ◌*◌, ◌<◌, ◌≤◌, Bool, true, false, ◌↔◌, List, length, get_or, set, Some, None, Option, sym, ap, refl, subst, ◌∙◌, inl, inr, arith}
+use Rattle.std.proofs.Common.{◌≡◌, ℕ, ◌+◌, ◌-◌, ◌*◌, ◌<◌, ◌≤◌, Bool, true, false, ◌↔◌, List, length, get_or, set, Some, None, Option, sym, ap, refl, subst, ◌∙◌, arith}
 use borrow.Rule.Slice.PartMut.{put_mid}
 use Rattle.std.proofs.lemmas.List.Edits.{length-between}
 use Rattle.std.specs.Option.{IsSome}
-use Rattle.std.proofs.lemmas.List.{get_or-set_same, get_or-set_other}
-use Rattle.std.proofs.lemmas.Bool.{cases_lt}
 use Rattle.columns.specs.Columns.{product}
 use Rattle.sheets.specs.Classes.{Classes}
 use Rattle.sheets.specs.Numbering.{bit, Numberable, Renumbered, NumberGives}
 use Rattle.sheets.specs.Tables.{listed}
 use Rattle.tuples.specs.Meaning.{sizes_of, clusters_of, count_of}
-use Rattle.tuples.specs.Tables.{LowestTuple}
 use Rattle.tuples.specs.Tuples.{width, tuple, part, tuples_before}
 use Rattle.tuples.specs.declared.tuple.Tuples.{Tuples}
 use Rattle.tuples.proofs.Widths.{before_rises}
@@ -74,18 +71,6 @@ module _ (x : Tuples) (k : ℕ) where
 
     -- one test more
     module _ (b : ℕ → Bool) (xs : List ℕ) where
-      pub appended_more : (ys : List ℕ) (i r v : ℕ) (says : Bool) → i < length ys → LowestTuple (sizes_of x) (clusters_of x) (count_of x) k i r → says ≡ b r → v ≡ 2 * get_or ys i 0 + bit says → Appended b xs ys i → Appended b xs (set ys i v) (i + 1)
-      appended_more ys i r v says room lowest told is g = record {
-        done = λ s hs h.
-            elim (cases_lt (at s) i) [
-              | inl before ↦ get_or-set_other ys i (at s) v 0 (omega arith) ∙ g.done s hs before
-              | inr after ↦
-                  let here : at s ≡ i = omega arith in
-                  ap (λ t. get_or (set ys i v) t 0) here ∙ get_or-set_same ys i v 0 room ∙ is ∙ (λ j. 2 * (g.rest i (omega arith) ∙ ap (λ t. get_or xs t 0) (sym here)) j + bit ((told ∙ ap b (lowest.found s hk hs here)) j))
-            ];
-        rest = λ t h. get_or-set_other ys i t v 0 (omega arith) ∙ g.rest t (omega arith);
-      }
-
       module _ (ys : List ℕ) (i : ℕ) (all : length xs ≡ width (sizes_of x) (clusters_of x) k) (same : length ys ≡ length xs) (end : length xs ≤ i) (g : Appended b xs ys i) where
         pub appended_numberable : ((t : ℕ) → t < length xs → get_or xs t 0 < 1024) → Numberable ys
         appended_numberable small = record {

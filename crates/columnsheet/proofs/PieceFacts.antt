@@ -1,5 +1,5 @@
 -- A table that is made anew piece by piece, and the counts of its pieces.
-use Rattle.std.proofs.Common.{◌≡◌, ℕ, ◌+◌, ◌-◌, ◌<◌, ◌≤◌, List, length, get_or, take, drop, set, sym, refl, ap, ◌∙◌, subst, inl, inr, arith, below_more}
+use Rattle.std.proofs.Common.{◌≡◌, ℕ, ◌+◌, ◌-◌, ◌<◌, ◌≤◌, List, length, get_or, take, drop, set, sym, ap, ◌∙◌, subst, inl, inr, arith, below_more}
 use borrow.Rule.Slice.PartMut.{put_mid}
 use Rattle.std.proofs.lemmas.Bool.{cases_lt}
 use Rattle.std.proofs.lemmas.List.{drop-drop, get_or-set_same, get_or-set_other}
@@ -13,9 +13,6 @@ pub record Renewed (at : ℕ → ℕ) (P : ℕ → Classes → Classes → Type 
   pub done : (k : ℕ) → k < i → P k (listed (get_or old k 0) (piece (at k) (at (k + 1)) xs)) (listed (get_or counts k 0) (piece (at k) (at (k + 1)) ys))
   pub rest : drop (at i) ys ≡ drop (at i) xs
   pub kept : (k : ℕ) → i ≤ k → get_or counts k 0 ≡ get_or old k 0
-
-pub renewed_none : (at : ℕ → ℕ) (P : ℕ → Classes → Classes → Type 0) (xs old : List ℕ) → Renewed at P xs old xs old 0
-renewed_none at P xs old = record { done = λ k h. absurd (omega arith); rest = refl; kept = λ k h. refl }
 
 module _ (at : ℕ → ℕ) (rises : (j k : ℕ) → j ≤ k → at j ≤ at k) (P : ℕ → Classes → Classes → Type 0) (xs old ys counts : List ℕ) (i : ℕ) (g : Renewed at P xs old ys counts i) where
   -- the pieces from i on are as they were

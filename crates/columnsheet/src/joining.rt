@@ -6,22 +6,9 @@ ghost use Rattle.tuples.specs.Meaning.{sizes_of, clusters_of, count_of};
 ghost use Rattle.tuples.specs.Tuples.{width};
 ghost use Rattle.columnsheet.specs.Kept.{parts_of, class_number, class_count};
 
-use crate::parts::{MOST_CLUSTERS, MOST_TUPLES, Parts};
-use tuples::tuple::Tuples;
+use crate::parts::Parts;
 
 impl Parts {
-    /// All tuples of a cluster in one class.
-    pub(crate) fn new(tuples: Tuples) -> Parts
-        ensures same { result.tuples ≡ tuples }
-        ensures one { (k t : ℕ) → k < count_of tuples → t < width (sizes_of tuples) (clusters_of tuples) k → class (parts_of result k) t ≡ 0 }
-    {
-        Parts {
-            tuples,
-            classes: [0; MOST_TUPLES],
-            counts: [1; MOST_CLUSTERS],
-        }
-    }
-
     /// The class of the tuple t of the cluster k.
     fn class(&self, k: usize, t: u16) -> u16
         requires cluster { k < count_of self.now.tuples }

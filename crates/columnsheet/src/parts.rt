@@ -7,10 +7,10 @@ ghost use Rattle.columnsheet.specs.Joins.{all_lawful};
 use tuples::tuple::Tuples;
 
 /// The most tuples that the clusters may have in all.
-pub(crate) const MOST_TUPLES: usize = 1024;
+const MOST_TUPLES: usize = 1024;
 
 /// The most clusters that there can be.
-pub(crate) const MOST_CLUSTERS: usize = 12;
+const MOST_CLUSTERS: usize = 12;
 
 /// The tuples of each cluster in classes.
 #[derive(Drop)]
@@ -23,4 +23,23 @@ pub(crate) struct Parts {
     ghost long: { length classes ≡ 1024 },
     ghost each: { length counts ≡ 12 },
     ghost lawful: { all_lawful (count_of tuples) (held (sizes_of tuples) (clusters_of tuples) classes counts) ≡ true },
+}
+
+impl Parts {
+    ghost use Rattle.std.specs.Prelude.{ℕ, ◌<◌};
+    ghost use Rattle.sheets.specs.Classes.{class};
+    ghost use Rattle.tuples.specs.Tuples.{width};
+    ghost use Rattle.columnsheet.specs.Kept.{parts_of};
+
+    /// All tuples of a cluster in one class.
+    pub(crate) fn new(tuples: Tuples) -> Parts
+        ensures same { result.tuples ≡ tuples }
+        ensures one { (k t : ℕ) → k < count_of tuples → t < width (sizes_of tuples) (clusters_of tuples) k → class (parts_of result k) t ≡ 0 }
+    {
+        Parts {
+            tuples,
+            classes: [0; MOST_TUPLES],
+            counts: [1; MOST_CLUSTERS],
+        }
+    }
 }

@@ -56,7 +56,7 @@ impl<C: ColumnedSource> Tests for Atoms<'_, C> {
 
     fn is_of(&self, tuples: &Tuples, k: usize, test: u16) -> bool {
         let clusters = tuples.clusters();
-        (0..clusters.variables()).any(|v| clusters.cluster(v) as usize == k
+        (0..clusters.variables()).any(|v| usize::from(clusters.cluster(v)) == k
             && self.source.reads(test, v as u16))
     }
 
