@@ -39,8 +39,8 @@ module _ (x : Tuples) (k : ℕ) (hk : k < count_of x) where
   pub start_is : (from : ℕ) → from ≡ tuples_before (sizes_of x) (clusters_of x) (min k (count_of x)) → from ≡ tuples_before (sizes_of x) (clusters_of x) k
   start_is from told = let low : min k (count_of x) ≡ k = omega arith in told ∙ ap (tuples_before (sizes_of x) (clusters_of x)) low
 
-  pub place_in : (t : ℕ) → t < width (sizes_of x) (clusters_of x) k → tuples_before (sizes_of x) (clusters_of x) k + t < 1024
-  place_in t lt = omega (arith, before_more (sizes_of x) (clusters_of x) k, own_end x k hk)
+  pub place_at : (t from own : ℕ) → t < width (sizes_of x) (clusters_of x) k → own ≡ t → from ≡ tuples_before (sizes_of x) (clusters_of x) (min k (count_of x)) → from + own < 1024
+  place_at t from own lt same told = omega (arith, start_is from told, before_more (sizes_of x) (clusters_of x) k, own_end x k hk)
 
   -- the tuple of a state, by what is told of it
   pub tuple_is : (s own : ℕ) → s < product (sizes_of x) → own ≡ cond (ltb s (product (sizes_of x)) && ltb k (count_of x)) (tuple (sizes_of x) (clusters_of x) k s) 0 → own ≡ tuple (sizes_of x) (clusters_of x) k s
