@@ -39,6 +39,11 @@ module _ (x : Tuples) (k : ℕ) (hk : k < count_of x) where
   pub start_is : (from : ℕ) → from ≡ tuples_before (sizes_of x) (clusters_of x) (min k (count_of x)) → from ≡ tuples_before (sizes_of x) (clusters_of x) k
   start_is from told = let low : min k (count_of x) ≡ k = omega arith in told ∙ ap (tuples_before (sizes_of x) (clusters_of x)) low
 
+  -- where they end
+  pub end_is : (to : ℕ) → to ≡ tuples_before (sizes_of x) (clusters_of x) (min (k + 1) (count_of x)) → to ≡ tuples_before (sizes_of x) (clusters_of x) (k + 1)
+  end_is to told = let low : min (k + 1) (count_of x) ≡ k + 1 = omega arith in told ∙ ap (tuples_before (sizes_of x) (clusters_of x)) low
+
+  -- and where a tuple's class stands
   pub place_at : (t from own : ℕ) → t < width (sizes_of x) (clusters_of x) k → own ≡ t → from ≡ tuples_before (sizes_of x) (clusters_of x) (min k (count_of x)) → from + own < 1024
   place_at t from own lt same told = omega (arith, start_is from told, before_more (sizes_of x) (clusters_of x) k, own_end x k hk)
 
@@ -86,7 +91,3 @@ module _ (p : Parts) (m : ℕ) (all : m ≡ count_of p.tuples) where
         number_more =
             subst (λ c. Adding (sizes p) classes (k + 1) (n * c + own)) (sym count_here)
             (subst (λ c. Adding (sizes p) classes (k + 1) (n * get_or (sizes p) k 0 + c)) class_here (adding_more (sizes p) classes k n (omega (arith, counts_length p)) (omega (arith, classes_length)) inv (omega (arith, class_here, count_here, class_below))))
-
--- where the tuples of the cluster k end, by what is told of it
-pub end_is : (x : Tuples) (k to : ℕ) → k < count_of x → to ≡ tuples_before (sizes_of x) (clusters_of x) (min (k + 1) (count_of x)) → to ≡ tuples_before (sizes_of x) (clusters_of x) (k + 1)
-end_is x k to hk told = let low : min (k + 1) (count_of x) ≡ k + 1 = omega arith in told ∙ ap (tuples_before (sizes_of x) (clusters_of x)) low

@@ -60,6 +60,7 @@ impl Parts {
         ensures same { self.new.tuples ≡ self.old.tuples }
         ensures parted { (k : ℕ) → k < count_of self.old.tuples → Parted self.old.tuples k (T.tests tests.now self.old.tuples) (T.Of tests.now self.old.tuples k) (T.truth tests.now) (parts_of self.old k) (parts_of self.new k) }
     {
+        // Kept: the number of a cluster says which tests it has, where its tuples stand and where their count goes.
         for k in 0..self.tuples.count() {
             let places = places_of(&self.tuples, k);
             self.counts[k] = part_cluster(tests, &self.tuples, k, &mut self.classes[places]);

@@ -9,7 +9,7 @@ pub returns : goal.returns
 returns c =
     let x = c.args.tuples.now in
     let from = start_is x c.args.k c.requires c.start.result c.start.ensures.tells in
-    let to = end_is x c.args.k c.start-2.result c.requires c.start-2.ensures.tells in
+    let to = end_is x c.args.k c.requires c.start-2.result c.start-2.ensures.tells in
     let more = before_more (sizes_of x) (clusters_of x) c.args.k in
     record {
       starts = from;
