@@ -1,6 +1,5 @@
 //! The column sheet as a sheet.
-ghost use Rattle.std.specs.Prelude.{◌≡◌, take};
-ghost use Rattle.columns.specs.Columns.{product};
+ghost use Rattle.std.specs.Prelude.{◌≡◌};
 ghost use Rattle.tuples.specs.Meaning.{sizes_of};
 ghost use Rattle.clusters.specs.Shapes.{partition};
 ghost use Rattle.columnsheet.specs.ColumnSplits.{SplitColumns};

@@ -1,6 +1,5 @@
 //! Tuples parted by tests.
 ghost use Rattle.std.specs.Prelude.{◌≡◌, ℕ, ◌+◌, ◌-◌, ◌<◌, ◌≤◌, length, slice_index};
-ghost use Rattle.sheets.specs.Classes.{class};
 ghost use Rattle.sheets.specs.Tables.{listed};
 ghost use Rattle.tuples.specs.Meaning.{sizes_of, clusters_of, count_of};
 ghost use Rattle.tuples.specs.Tuples.{width, tuples_before};

@@ -66,7 +66,7 @@ impl<C: ColumnedSource> Tests for Atoms<'_, C> {
 }
 
 /// Whether a tuple gives a dead state together with a rest: one test for each rest, a state that has 0 in the cluster.
-#[derive(Clone, Copy)]
+#[derive(Drop)]
 pub(crate) struct Deaths<'a> {
     pub(crate) marks: &'a [u8],
 }
