@@ -1,12 +1,12 @@
 pub mod JoinFacts
 pub mod AlikeFacts
 pub mod SplitFacts
-pub mod RefineFacts
 pub mod GroupFacts
 pub mod PieceFacts
-pub mod TellFacts
 pub mod OwnTuples
 pub mod JoinLoops
-pub mod SplitLoops
-pub mod FirstLoops
+pub mod CountFacts
+pub mod PartLoops
+pub mod FirstFacts
+pub mod DeathFacts
 pub mod SheetFacts

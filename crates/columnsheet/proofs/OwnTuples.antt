@@ -1,5 +1,6 @@
 -- What a column sheet's tables keep, as facts about partitions.
-use Rattle.std.proofs.Common.{◌≡◌, ℕ, ◌+◌, ◌-◌, ◌<◌, ◌≤◌, true, eqb, ltb, List, length, get_or, ◌∙◌, arith}
+use Rattle.std.proofs.Common.{◌≡◌, ℕ, ◌+◌, ◌-◌, ◌<◌, ◌≤◌, true, eqb, ltb, get_or, replicate, ◌∙◌, arith}
+use Rattle.std.proofs.lemmas.List.{get_or-replicate}
 use Rattle.std.proofs.lemmas.List.Edits.{length-between, get_or-between}
 use Rattle.std.proofs.lemmas.Bool.{and_parts, and_from, ltb-true, lt-ltb, eqb-true, eq-eqb}
 use Rattle.columns.specs.Columns.{product, each_below}
@@ -16,8 +17,10 @@ use Rattle.tuples.specs.declared.tuple.Tuples.{Tuples}
 use Rattle.tuples.proofs.Grids.{Grid}
 use Rattle.tuples.proofs.StateGrid.{grid, wide_positive}
 use Rattle.tuples.proofs.Widths.{before_more, before_rises}
+use Rattle.columnsheet.specs.Groups.{held}
 use Rattle.columnsheet.specs.Joins.{joined, lawful_test, all_lawful}
-use Rattle.columnsheet.specs.Kept.{Sound, parts_of, class_count}
+use Rattle.columnsheet.specs.Kept.{parts_of, class_count}
+use Rattle.columnsheet.specs.declared.parts.Parts.{Parts}
 use Rattle.columnsheet.proofs.JoinFacts.{joined_lawful, joined_states}
 
 -- ── Lawful partitions as a test ──
@@ -62,35 +65,60 @@ module _ (x : Tuples) where
   pub own_width : (k : ℕ) → tuples_before (sizes_of x) (clusters_of x) (k + 1) - tuples_before (sizes_of x) (clusters_of x) k ≡ width (sizes_of x) (clusters_of x) k
   own_width k = omega (arith, before_more (sizes_of x) (clusters_of x) k)
 
-  module _ (parts counts : List ℕ) (long : length parts ≡ 1024) where
-    pub own_sized : (k : ℕ) → k < count_of x → states (parts_of x parts counts k) ≡ width (sizes_of x) (clusters_of x) k
-    own_sized k h = length-between parts (tuples_before (sizes_of x) (clusters_of x) k) (tuples_before (sizes_of x) (clusters_of x) (k + 1)) (omega (arith, own_end k h)) ∙ own_width k
+  pub own_few : (k : ℕ) → k < count_of x → width (sizes_of x) (clusters_of x) k ≤ 1024
+  own_few k h = omega (arith, own_width k, own_end k h)
 
-    -- the class of a tuple stands at its place
-    pub own_class : (k s : ℕ) → k < count_of x → s < product (sizes_of x) → class (parts_of x parts counts k) (tuple (sizes_of x) (clusters_of x) k s) ≡ get_or parts (tuples_before (sizes_of x) (clusters_of x) k + tuple (sizes_of x) (clusters_of x) k s) 0
-    own_class k s h hs =
-        get_or-between parts (tuples_before (sizes_of x) (clusters_of x) k) (tuples_before (sizes_of x) (clusters_of x) (k + 1)) (tuple (sizes_of x) (clusters_of x) k s) 0
-        (omega (arith, own_grid.below k s h hs, before_more (sizes_of x) (clusters_of x) k))
+-- ── Their classes ──
 
-  module _ (parts counts : List ℕ) (sound : Sound x parts counts) where
-    pub own_lawful : (k : ℕ) → k < count_of x → Lawful (parts_of x parts counts k)
-    own_lawful k h = lawful_from_test (parts_of x parts counts k) (each_below_at (count_of x) (λ k. lawful_test (parts_of x parts counts k)) k sound.lawful h)
+module _ (p : Parts) where
+  abbrev x : Tuples
+  x = p.tuples
 
-    pub own_joined : Lawful (joined (product (sizes_of x)) (count_of x) (tuple (sizes_of x) (clusters_of x)) (parts_of x parts counts))
-    own_joined = joined_lawful (product (sizes_of x)) (count_of x) (width (sizes_of x) (clusters_of x)) (tuple (sizes_of x) (clusters_of x)) (part (sizes_of x) (clusters_of x)) own_grid (parts_of x parts counts) own_lawful (own_sized parts counts sound.long) own_some
+  pub own_sized : (k : ℕ) → k < count_of x → states (parts_of p k) ≡ width (sizes_of x) (clusters_of x) k
+  own_sized k h = length-between p.classes (tuples_before (sizes_of x) (clusters_of x) k) (tuples_before (sizes_of x) (clusters_of x) (k + 1)) (omega (arith, own_end x k h, p.long)) ∙ own_width x k
 
-    pub own_states : states (joined (product (sizes_of x)) (count_of x) (tuple (sizes_of x) (clusters_of x)) (parts_of x parts counts)) ≡ product (sizes_of x)
-    own_states = joined_states (product (sizes_of x)) (count_of x) (width (sizes_of x) (clusters_of x)) (tuple (sizes_of x) (clusters_of x)) (part (sizes_of x) (clusters_of x)) own_grid (parts_of x parts counts) own_lawful (own_sized parts counts sound.long)
+  -- the class of a tuple stands at its place
+  pub own_class : (k t : ℕ) → t < width (sizes_of x) (clusters_of x) k → class (parts_of p k) t ≡ get_or p.classes (tuples_before (sizes_of x) (clusters_of x) k + t) 0
+  own_class k t h =
+      get_or-between p.classes (tuples_before (sizes_of x) (clusters_of x) k) (tuples_before (sizes_of x) (clusters_of x) (k + 1)) t 0
+      (omega (arith, h, before_more (sizes_of x) (clusters_of x) k))
 
-    pub own_count : class_count x parts counts ≤ 4096
-    own_count = omega (arith, count_most (joined (product (sizes_of x)) (count_of x) (tuple (sizes_of x) (clusters_of x)) (parts_of x parts counts)) own_joined, own_states, own_most)
+  pub own_lawful : (k : ℕ) → k < count_of x → Lawful (parts_of p k)
+  own_lawful k h = lawful_from_test (parts_of p k) (each_below_at (count_of x) (λ k. lawful_test (parts_of p k)) k p.lawful h)
 
-    -- class numbers of tuples stay small
-    pub own_small : (k : ℕ) → k < count_of x → (t : ℕ) → t < width (sizes_of x) (clusters_of x) k → class (parts_of x parts counts k) t < 1024
-    own_small k h t lt =
-        let size = own_sized parts counts sound.long k h in
-        omega (arith, size, (own_lawful k h).below t (omega (arith, size)), count_most (parts_of x parts counts k) (own_lawful k h), own_width k, own_end k h)
+  pub own_joined : Lawful (joined (product (sizes_of x)) (count_of x) (tuple (sizes_of x) (clusters_of x)) (parts_of p))
+  own_joined = joined_lawful (product (sizes_of x)) (count_of x) (width (sizes_of x) (clusters_of x)) (tuple (sizes_of x) (clusters_of x)) (part (sizes_of x) (clusters_of x)) (own_grid x) (parts_of p) own_lawful own_sized (own_some x)
 
--- tables of the right lengths with lawful partitions are sound
-pub sound_from : (x : Tuples) (parts counts : List ℕ) → length parts ≡ 1024 → length counts ≡ 12 → ((k : ℕ) → k < count_of x → Lawful (parts_of x parts counts k)) → Sound x parts counts
-sound_from x parts counts long each lawful = record { long = long; each = each; lawful = all_from_lawful (count_of x) (parts_of x parts counts) lawful }
+  pub own_states : states (joined (product (sizes_of x)) (count_of x) (tuple (sizes_of x) (clusters_of x)) (parts_of p)) ≡ product (sizes_of x)
+  own_states = joined_states (product (sizes_of x)) (count_of x) (width (sizes_of x) (clusters_of x)) (tuple (sizes_of x) (clusters_of x)) (part (sizes_of x) (clusters_of x)) (own_grid x) (parts_of p) own_lawful own_sized
+
+  pub own_total : class_count p ≤ 4096
+  own_total = omega (arith, count_most (joined (product (sizes_of x)) (count_of x) (tuple (sizes_of x) (clusters_of x)) (parts_of p)) own_joined, own_states, own_most x)
+
+  -- class numbers of tuples stay small
+  pub own_small : (k : ℕ) → k < count_of x → (t : ℕ) → t < width (sizes_of x) (clusters_of x) k → class (parts_of p k) t < 1024
+  own_small k h t lt =
+      let size = own_sized k h in
+      omega (arith, size, (own_lawful k h).below t (omega (arith, size)), count_most (parts_of p k) (own_lawful k h), own_few x k h)
+
+-- ── At first all tuples of a cluster are in one class ──
+
+module _ (x : Tuples) (k : ℕ) (hk : k < count_of x) where
+  abbrev one : Classes
+  one = held (sizes_of x) (clusters_of x) (replicate 1024 0) (replicate 12 1) k
+
+  pub one_class : (t : ℕ) → t < width (sizes_of x) (clusters_of x) k → class one t ≡ 0
+  one_class t h =
+      let from = tuples_before (sizes_of x) (clusters_of x) k in
+      get_or-between (replicate 1024 0) from (tuples_before (sizes_of x) (clusters_of x) (k + 1)) t 0 (omega (arith, h, before_more (sizes_of x) (clusters_of x) k))
+      ∙ get_or-replicate {A = ℕ} 1024 (from + t) 0 0 (omega (arith, before_more (sizes_of x) (clusters_of x) k, own_end x k hk))
+
+  pub one_lawful : Lawful one
+  one_lawful =
+      let size : states one ≡ width (sizes_of x) (clusters_of x) k = length-between (replicate 1024 0) (tuples_before (sizes_of x) (clusters_of x) k) (tuples_before (sizes_of x) (clusters_of x) (k + 1)) (omega (arith, own_end x k hk)) ∙ own_width x k in
+      let count : one.count ≡ 1 = get_or-replicate {A = ℕ} 12 k 1 0 (omega (arith, own_clusters x)) in
+      let some : 0 < width (sizes_of x) (clusters_of x) k = omega (arith, (own_grid x).below k 0 hk (own_some x)) in
+      record {
+        below = λ t h. omega (arith, count, one_class t (omega (arith, size)));
+        occurs = λ c h. (0, omega (arith, size), one_class 0 some ∙ (let none : 0 ≡ c = omega (arith, count) in none));
+      }

@@ -1,72 +1,82 @@
 -- What a column sheet keeps, as facts of its partition.
-use Rattle.std.proofs.Common.{◌≡◌, ℕ, ◌<◌, ◌≤◌, List, map, length, get_or, take, Some, None, sym, refl, ap, ◌∙◌, subst, arith}
+use Rattle.std.proofs.Common.{◌≡◌, ℕ, ◌+◌, ◌<◌, ◌≤◌, List, map, length, take, sym, ap, ◌∙◌, subst, arith}
 use Rattle.std.specs.List.{range_with_len}
 use Rattle.std.proofs.lemmas.List.FromFn.{fill_by_all}
 use Rattle.std.proofs.lemmas.List.{get_or-take, length-take-le}
-use Rattle.std.proofs.lemmas.Bool.{cond-true, cond-false, lt-ltb, le-ltb}
-use Rattle.columns.specs.Columns.{Columns, product}
-use Rattle.sheets.specs.Classes.{Classes, states, class, class_at, Lawful}
+use Rattle.columns.specs.Columns.{Columns, Columned, product}
+use Rattle.sheets.specs.Classes.{Classes, states, class, Lawful}
 use Rattle.sheets.specs.Splits.{SplitInto}
-use Rattle.sheets.specs.Tables.{listed}
 use Rattle.clusters.specs.Makes.{ClustersOf}
 use Rattle.clusters.specs.Shapes.{partition}
 use Rattle.tuples.specs.Meaning.{sizes_of, clusters_of, count_of}
-use Rattle.tuples.specs.Tuples.{width, tuple, tuples_before}
+use Rattle.tuples.specs.Tuples.{width, tuple, part, tuples_before}
 use Rattle.tuples.specs.declared.tuple.Tuples.{Tuples}
-use Rattle.columnsheet.specs.ColumnSplits.{SplitCluster, SplitColumns}
-use Rattle.columnsheet.specs.Firsts.{Agree, FirstColumns}
+use Rattle.columnsheet.specs.ColumnSplits.{SplitColumns}
+use Rattle.columnsheet.specs.Firsts.{AtomOf, Agree, FirstColumns}
+use Rattle.columnsheet.specs.Parting.{Parted}
+use Rattle.rules.specs.Rules.{Rules}
+use Rattle.columnsheet.proofs.AlikeFacts.{dead}
+use Rattle.columnsheet.proofs.DeathFacts.{parted_split}
+use Rattle.columnsheet.proofs.FirstFacts.{parted_agree}
 use Rattle.columnsheet.specs.Groups.{Grouped}
 use Rattle.columnsheet.specs.Joins.{joined}
-use Rattle.columnsheet.specs.Kept.{Sound, Grouping, parts_of, class_number}
-use Rattle.columnsheet.specs.Sheets.{sheet_classes, cluster_parts}
+use Rattle.columnsheet.specs.Kept.{Grouping, parts_of, class_number}
+use Rattle.columnsheet.specs.declared.parts.Parts.{Parts}
+use Rattle.columnsheet.specs.Sheets.{sheet_classes}
 use Rattle.columnsheet.specs.declared.sheet.ColumnSheet.{ColumnSheet}
 use Rattle.columnsheet.proofs.OwnTuples.{own_grid, own_some, own_most, own_lawful, own_sized, own_joined, own_states}
 use Rattle.columnsheet.proofs.SplitFacts.{columns_into}
 
 module _ (x : ColumnSheet) where
-  pub own_sound : Sound x.tuples x.parts x.counts
-  own_sound = record { long = x.long; each = x.each; lawful = x.lawful }
-
-  pub sheet_states : states (sheet_classes x) ≡ product (sizes_of x.tuples)
-  sheet_states = own_states x.tuples x.parts x.counts own_sound
+  pub sheet_states : states (sheet_classes x) ≡ product (sizes_of x.parts.tuples)
+  sheet_states = own_states x.parts
 
   pub sheet_lawful : Lawful (sheet_classes x)
-  sheet_lawful = own_joined x.tuples x.parts x.counts own_sound
+  sheet_lawful = own_joined x.parts
 
   -- the table has the class of each state
-  pub sheet_table : listed x.count (take (product (sizes_of x.tuples)) x.table) ≡ sheet_classes x
-  sheet_table =
-      let n = product (sizes_of x.tuples) in
-      let long : length (take n x.table) ≡ n = length-take-le n x.table (omega (arith, x.full, own_most x.tuples)) in
-      let same : take n x.table ≡ map (class_number x.tuples x.parts x.counts) (range_with_len 0 n) = fill_by_all (class_number x.tuples x.parts x.counts) (take n x.table) n 0 long (λ s h. get_or-take n x.table s 0 h ∙ x.told s h) in
-      λ i. listed (x.counted i) (same i)
+  pub sheet_table : (n : ℕ) → n ≡ product (sizes_of x.parts.tuples) → take n x.table ≡ (sheet_classes x).of
+  sheet_table n size =
+      let long : length (take n x.table) ≡ n = length-take-le n x.table (omega (arith, x.full, own_most x.parts.tuples)) in
+      fill_by_all (class_number x.parts) (take n x.table) n 0 long (λ s h. get_or-take n x.table s 0 h ∙ x.told s (omega arith)) ∙ ap (λ n. map (class_number x.parts) (range_with_len 0 n)) size
 
-  pub sheet_class : (s : ℕ) → s < product (sizes_of x.tuples) → Some (get_or x.table s 0) ≡ class_at (sheet_classes x) s
-  sheet_class s h =
-      let size = sheet_states in
-      ap Some (sym (get_or-take (product (sizes_of x.tuples)) x.table s 0 h) ∙ ap (λ c. class c s) sheet_table) ∙ sym (cond-true _ _ _ (lt-ltb s _ (omega arith)))
+-- an accepted split: x is parted to y
+pub sheet_split : (x y : Parts) (marks : List ℕ) → y.tuples ≡ x.tuples
+    → ((k : ℕ) → k < count_of x.tuples → Parted x.tuples k (product (sizes_of x.tuples)) (λ rest. part (sizes_of x.tuples) (clusters_of x.tuples) k rest ≡ 0) (λ rest s. dead marks (rest + s)) (parts_of x k) (parts_of y k))
+    → SplitColumns (sizes_of x.tuples) (partition x.tuples.clusters) (parts_of x) marks (joined (product (sizes_of y.tuples)) (count_of y.tuples) (tuple (sizes_of y.tuples) (clusters_of y.tuples)) (parts_of y))
+sheet_split x y marks same parted = record {
+  each = parts_of y;
+  split = λ k h. parted_split x.tuples k marks (parts_of x k) (parts_of y k) h (parted k h);
+  joined_is = ap (λ t. joined (product (sizes_of t)) (count_of t) (tuple (sizes_of t) (clusters_of t)) (parts_of y)) same;
+}
 
-  pub sheet_none : (s : ℕ) → product (sizes_of x.tuples) ≤ s → None ≡ class_at (sheet_classes x) s
-  sheet_none s h = let size = sheet_states in sym (cond-false _ _ _ (le-ltb s _ (omega arith)))
-
-  -- an accepted split
-  pub sheet_split : (marks parts counts : List ℕ) → ((k : ℕ) → k < count_of x.tuples → SplitCluster (sizes_of x.tuples) (partition x.tuples.clusters) marks k (cluster_parts x k) (parts_of x.tuples parts counts k))
-      → SplitColumns (sizes_of x.tuples) (partition x.tuples.clusters) (cluster_parts x) marks (joined (product (sizes_of x.tuples)) (count_of x.tuples) (tuple (sizes_of x.tuples) (clusters_of x.tuples)) (parts_of x.tuples parts counts))
-  sheet_split marks parts counts split = record { each = parts_of x.tuples parts counts; split = split; joined_is = refl }
-
-  pub sheet_into : (marks : List ℕ) (e : Classes) → SplitColumns (sizes_of x.tuples) (partition x.tuples.clusters) (cluster_parts x) marks e → SplitInto (sheet_classes x) marks e
-  sheet_into marks e s =
-      columns_into (sizes_of x.tuples) (partition x.tuples.clusters) (cluster_parts x) marks (own_some x.tuples) (own_grid x.tuples) (own_lawful x.tuples x.parts x.counts own_sound) (own_sized x.tuples x.parts x.counts x.long) e s
+pub sheet_into : (x : Parts) (marks : List ℕ) (e : Classes) → SplitColumns (sizes_of x.tuples) (partition x.tuples.clusters) (parts_of x) marks e → SplitInto (joined (product (sizes_of x.tuples)) (count_of x.tuples) (tuple (sizes_of x.tuples) (clusters_of x.tuples)) (parts_of x)) marks e
+sheet_into x marks e s = columns_into (sizes_of x.tuples) (partition x.tuples.clusters) (parts_of x) marks (own_some x.tuples) (own_grid x.tuples) (own_lawful x) (own_sized x) e s
 
 -- the clusters' tuples at first, over the sizes that the source tells
-pub first_columns : (c : Columns) (x : Tuples) (parts counts : List ℕ) → ClustersOf c x.clusters → tuples_before (sizes_of x) (clusters_of x) (count_of x) ≤ 1024
-    → ((k : ℕ) → k < count_of x → Grouping x k (Agree c (partition x.clusters) k) (parts_of x parts counts k))
-    → FirstColumns c (joined (product (sizes_of x)) (count_of x) (tuple (sizes_of x) (clusters_of x)) (parts_of x parts counts))
-first_columns c x parts counts made few first = record {
-  clusters = partition x.clusters;
-  clustered = made.clustered;
-  few = subst (λ ds. tuples_before ds (clusters_of x) (count_of x) ≤ 1024) made.sizes_are few;
-  each = parts_of x parts counts;
-  first = λ k h. subst (λ ds. Grouped (product ds) (width ds (clusters_of x) k) (tuple ds (clusters_of x) k) (Agree c (partition x.clusters) k) (parts_of x parts counts k)) made.sizes_are (first k h);
-  joined_is = ap (λ ds. joined (product ds) (count_of x) (tuple ds (clusters_of x)) (parts_of x parts counts)) made.sizes_are;
-}
+first_columns : (c : Columns) (p : Parts) → ClustersOf c p.tuples.clusters → ((k : ℕ) → k < count_of p.tuples → Grouping p.tuples k (Agree c (partition p.tuples.clusters) k) (parts_of p k))
+    → FirstColumns c (joined (product (sizes_of p.tuples)) (count_of p.tuples) (tuple (sizes_of p.tuples) (clusters_of p.tuples)) (parts_of p))
+first_columns c p made first =
+    let x = p.tuples in
+    record {
+      clusters = partition x.clusters;
+      clustered = made.clustered;
+      few = subst (λ ds. tuples_before ds (clusters_of x) (count_of x) ≤ 1024) made.sizes_are x.most;
+      each = parts_of p;
+      first = λ k h. subst (λ ds. Grouped (product ds) (width ds (clusters_of x) k) (tuple ds (clusters_of x) k) (Agree c (partition x.clusters) k) (parts_of p k)) made.sizes_are (first k h);
+      joined_is = ap (λ ds. joined (product ds) (count_of x) (tuple ds (clusters_of x)) (parts_of p)) made.sizes_are;
+    }
+
+-- the tuples x in one class each, as `one` has them, are parted to p by the atoms
+pub first_sheet : (r : Rules) (c : Columns) (x : Tuples) (one p : Parts) → Columned r c → ClustersOf c x.clusters → one.tuples ≡ x → p.tuples ≡ one.tuples
+    → ((k t : ℕ) → k < count_of x → t < width (sizes_of x) (clusters_of x) k → class (parts_of one k) t ≡ 0)
+    → ((k : ℕ) → k < count_of one.tuples → Parted one.tuples k c.atoms (AtomOf c (partition one.tuples.clusters) k) (λ a s. c.truth s a) (parts_of one k) (parts_of p k))
+    → FirstColumns c (joined (product (sizes_of p.tuples)) (count_of p.tuples) (tuple (sizes_of p.tuples) (clusters_of p.tuples)) (parts_of p))
+first_sheet r c x one p columned made begun kept zero parted =
+    let there : x ≡ p.tuples = sym begun ∙ sym kept in
+    let own : ClustersOf c p.tuples.clusters = subst (λ y. ClustersOf c y.clusters) there made in
+    first_columns c p own
+    (λ k h.
+    parted_agree p.tuples k h r c columned own (parts_of one k) (parts_of p k)
+    (λ t w. subst (λ y. (k t : ℕ) → k < count_of y → t < width (sizes_of y) (clusters_of y) k → class (parts_of one k) t ≡ 0) there zero k t h w)
+    (subst (λ y. (k : ℕ) → k < count_of y → Parted y k c.atoms (AtomOf c (partition y.clusters) k) (λ a s. c.truth s a) (parts_of one k) (parts_of p k)) (sym kept) parted k h))

@@ -1,5 +1,5 @@
 -- Partitions of the tuples of one cluster.
-use Rattle.std.specs.Prelude.{◌≡◌, ℕ, ◌+◌, ◌<◌, Bool, false, ◌↔◌, List, length, slice_index, slice_index_or, slice_range}
+use Rattle.std.specs.Prelude.{◌≡◌, ℕ, ◌+◌, ◌<◌, ◌↔◌, List, slice_index, slice_range}
 use Rattle.sheets.specs.Classes.{Classes, states, class, Lawful}
 use Rattle.sheets.specs.Tables.{listed}
 use Rattle.sheets.specs.Whole.{Numbered}
@@ -11,13 +11,6 @@ pub record Grouped (n w : ℕ) (tuple : ℕ → ℕ) (E : ℕ → ℕ → Type 0
   pub tuples_are : states d ≡ w
   pub numbered : Numbered d
   pub together : (s t : ℕ) → s < n → t < n → (class d (tuple s) ≡ class d (tuple t)) ↔ E s t
-
--- the class numbers xs are refined by one bit each: d has those together that had the same number and have the same bit
-pub record Refined (bits : List Bool) (xs : List ℕ) (d : Classes) : Type 0 where
-  pub lawful : Lawful d
-  pub entries_are : states d ≡ length xs
-  pub numbered : Numbered d
-  pub together : (s t : ℕ) → s < length xs → t < length xs → (class d s ≡ class d t) ↔ ((slice_index xs s ≡ slice_index xs t) × (slice_index_or bits s false ≡ slice_index_or bits t false))
 
 -- the entries of a table from one place to another
 abbrev pub piece : ℕ → ℕ → List ℕ → List ℕ

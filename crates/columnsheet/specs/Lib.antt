@@ -3,5 +3,6 @@ pub mod Joins
 pub mod Firsts
 pub mod ColumnSplits
 pub mod Kept
+pub mod Parting
 pub mod Refusals
 pub mod Sheets

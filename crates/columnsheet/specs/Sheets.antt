@@ -13,11 +13,11 @@ use Rattle.columnsheet.specs.declared.sheet.ColumnSheet.{ColumnSheet}
 
 -- the partition of each cluster's tuples
 abbrev pub cluster_parts : ColumnSheet → ℕ → Classes
-cluster_parts x = parts_of x.tuples x.parts x.counts
+cluster_parts x = parts_of x.parts
 
 -- the partition of the states
 abbrev pub sheet_classes : ColumnSheet → Classes
-sheet_classes x = joined (product (sizes_of x.tuples)) (count_of x.tuples) (tuple (sizes_of x.tuples) (clusters_of x.tuples)) (cluster_parts x)
+sheet_classes x = joined (product (sizes_of x.parts.tuples)) (count_of x.parts.tuples) (tuple (sizes_of x.parts.tuples) (clusters_of x.parts.tuples)) (cluster_parts x)
 
 -- a source whose clusters have at most 1024 tuples in all has a column sheet, and any other is refused
 abbrev pub ColumnsGive : Columns → Result ColumnSheet ColumnFault → Type 0

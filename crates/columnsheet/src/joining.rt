@@ -1,55 +1,51 @@
 //! The classes of states, made of the classes of their tuples.
-ghost use Rattle.std.specs.Prelude.{◌≡◌, ℕ, ◌+◌, ◌<◌, ◌≤◌, length, slice_index};
+ghost use Rattle.std.specs.Prelude.{◌≡◌, ℕ, ◌<◌, ◌≤◌, length, slice_index};
 ghost use Rattle.columns.specs.Columns.{product};
+ghost use Rattle.sheets.specs.Classes.{class};
 ghost use Rattle.tuples.specs.Meaning.{sizes_of, clusters_of, count_of};
-ghost use Rattle.tuples.specs.Tuples.{width, tuples_before};
-ghost use Rattle.columnsheet.specs.Kept.{Sound, class_number, class_count};
+ghost use Rattle.tuples.specs.Tuples.{width};
+ghost use Rattle.columnsheet.specs.Kept.{parts_of, class_number, class_count};
 
-use tuples::tuple::Tuples;
+use crate::parts::Parts;
 
-/// The class of the tuple t of the cluster k.
-fn class_of(tuples: &Tuples, parts: &[u16], k: usize, t: u16) -> u16
-    requires long { length parts.now ≡ 1024 }
-    requires cluster { k < count_of tuples.now }
-    requires tuple { t < width (sizes_of tuples.now) (clusters_of tuples.now) k }
-    ensures { result ≡ slice_index parts.now (tuples_before (sizes_of tuples.now) (clusters_of tuples.now) k + t) }
-{
-    parts[tuples.start(k) + t as usize]
-}
-
-/// The class number of a state: its cluster classes put together, over the class counts.
-fn number_of(tuples: &Tuples, parts: &[u16], counts: &[u16], s: u16) -> u16
-    requires sound { Sound tuples.now parts.now counts.now }
-    requires state { s < product (sizes_of tuples.now) }
-    ensures { result ≡ class_number tuples.now parts.now counts.now s }
-{
-    let own = tuples.of(s);
-    let mut number: u16 = 0;
-    for k in 0..tuples.count() {
-        number = number * counts[k] + class_of(tuples, parts, k, own[k]);
+impl Parts {
+    /// The class of the tuple t of the cluster k.
+    fn class(&self, k: usize, t: u16) -> u16
+        requires cluster { k < count_of self.now.tuples }
+        requires tuple { t < width (sizes_of self.now.tuples) (clusters_of self.now.tuples) k }
+        ensures { result ≡ class (parts_of self.now k) t }
+    {
+        self.classes[self.tuples.start(k) + usize::from(t)]
     }
-    number
-}
 
-/// Writes the class number of each state.
-pub(crate) fn fill_table(tuples: &Tuples, parts: &[u16], counts: &[u16], table: &mut [u16])
-    requires sound { Sound tuples.now parts.now counts.now }
-    requires room { product (sizes_of tuples.now) ≤ length table.old }
-    ensures { (s : ℕ) → s < product (sizes_of tuples.now) → slice_index table.new s ≡ class_number tuples.now parts.now counts.now s }
-{
-    for s in 0..tuples.states() {
-        table[s as usize] = number_of(tuples, parts, counts, s);
+    /// The class number of a state: its cluster classes put together, over the class counts.
+    fn number_of(&self, s: u16) -> u16
+        requires { s < product (sizes_of self.now.tuples) }
+        ensures { result ≡ class_number self.now s }
+    {
+        let own = self.tuples.of(s);
+        let mut number = 0;
+        for (k, count) in self.counts[..self.tuples.count()].iter().enumerate() {
+            number = number * count + self.class(k, own[k]);
+        }
+        number
     }
-}
 
-/// How many classes of states there are: the product of the clusters' class counts.
-pub(crate) fn count_classes(tuples: &Tuples, parts: &[u16], counts: &[u16]) -> u16
-    requires { Sound tuples.now parts.now counts.now }
-    ensures { result ≡ class_count tuples.now parts.now counts.now }
-{
-    let mut all: u16 = 1;
-    for k in 0..tuples.count() {
-        all *= counts[k];
+    /// Writes the class number of each state.
+    pub(crate) fn fill_table(&self, table: &mut [u16])
+        requires room { product (sizes_of self.now.tuples) ≤ length table.old }
+        ensures { (s : ℕ) → s < product (sizes_of self.now.tuples) → slice_index table.new s ≡ class_number self.now s }
+    {
+        let states = usize::from(self.tuples.states());
+        for (s, class) in table[..states].iter_mut().enumerate() {
+            *class = self.number_of(s as u16);
+        }
     }
-    all
+
+    /// How many classes of states there are: the product of the clusters' class counts.
+    pub(crate) fn count_classes(&self) -> u16
+        ensures { result ≡ class_count self.now }
+    {
+        self.counts[..self.tuples.count()].iter().product()
+    }
 }

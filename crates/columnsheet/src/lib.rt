@@ -3,10 +3,9 @@
 
 pub mod column_states;
 pub mod fault;
-mod firsts;
 mod joining;
 pub mod making;
-mod pieces;
-mod refining;
+mod parting;
+mod parts;
 pub mod sheet;
-mod splits;
+mod tests;

@@ -2,9 +2,9 @@
 ghost use Rattle.columnsheet.specs.Sheets.{ColumnsGive};
 
 use crate::fault::ColumnFault;
-use crate::firsts::first_parts;
-use crate::joining::{count_classes, fill_table};
+use crate::parts::Parts;
 use crate::sheet::ColumnSheet;
+use crate::tests::Atoms;
 use clusters::cluster::Clusters;
 use columns::source::ColumnedSource;
 use rules::list::MOST_STATES;
@@ -15,19 +15,14 @@ impl ColumnSheet {
     pub fn new<C: ColumnedSource>(source: &C) -> Result<ColumnSheet, ColumnFault>
         ensures { ColumnsGive (C.columns source.now) result }
     {
-        let Some(tuples) = Tuples::new(Clusters::new(source)) else {
-            return Err(ColumnFault::TooManyTuples);
-        };
-        let mut parts = [0; 1024];
-        let mut counts = [0; 12];
-        first_parts(source, &tuples, &mut parts, &mut counts);
+        let tuples = Tuples::new(Clusters::new(source)).ok_or(ColumnFault::TooManyTuples)?;
+        let mut parts = Parts::new(tuples);
+        parts.part(&Atoms { source });
         let mut table = [0; MOST_STATES];
-        fill_table(&tuples, &parts, &counts, &mut table);
-        let count = count_classes(&tuples, &parts, &counts);
+        parts.fill_table(&mut table);
+        let count = parts.count_classes();
         Ok(ColumnSheet {
-            tuples,
             parts,
-            counts,
             table,
             count,
         })

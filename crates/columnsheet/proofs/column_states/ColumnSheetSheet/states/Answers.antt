@@ -9,5 +9,5 @@ returns c =
     record {
       tells = c.states.ensures ∙ sym (sheet_states x);
       lawful = sheet_lawful x;
-      held = omega (arith, sheet_states x, own_most x.tuples);
+      held = omega (arith, sheet_states x, own_most x.parts.tuples);
     }
