@@ -4,13 +4,8 @@ ghost use Rattle.tuples.specs.Meaning.{sizes_of, clusters_of, count_of};
 ghost use Rattle.columnsheet.specs.Groups.{held};
 ghost use Rattle.columnsheet.specs.Joins.{all_lawful};
 
-use tuples::tuple::Tuples;
-
-/// The most tuples that the clusters may have in all.
-const MOST_TUPLES: usize = 1024;
-
-/// The most clusters that there can be.
-const MOST_CLUSTERS: usize = 12;
+use clusters::cluster::MOST_VARIABLES;
+use tuples::tuple::{MOST_TUPLES, Tuples};
 
 /// The tuples of each cluster in classes.
 #[derive(Drop)]
@@ -18,8 +13,8 @@ pub(crate) struct Parts {
     pub(crate) tuples: Tuples,
     /// The class of each tuple, cluster after cluster.
     pub(crate) classes: [u16; MOST_TUPLES],
-    /// How many classes each cluster has.
-    pub(crate) counts: [u16; MOST_CLUSTERS],
+    /// How many classes each cluster has. There are no more clusters than variables.
+    pub(crate) counts: [u16; MOST_VARIABLES],
     ghost long: { length classes ≡ 1024 },
     ghost each: { length counts ≡ 12 },
     ghost lawful: { all_lawful (count_of tuples) (held (sizes_of tuples) (clusters_of tuples) classes counts) ≡ true },
@@ -39,7 +34,7 @@ impl Parts {
         Parts {
             tuples,
             classes: [0; MOST_TUPLES],
-            counts: [1; MOST_CLUSTERS],
+            counts: [1; MOST_VARIABLES],
         }
     }
 }
