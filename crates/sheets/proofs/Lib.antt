@@ -10,5 +10,4 @@ pub mod Nexts
 mod Links
 mod Scans
 mod Ranks
-mod Marks
 pub mod WholeSplits
