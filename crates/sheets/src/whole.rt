@@ -31,6 +31,7 @@ fn move_bad(table: &mut [u16], to: u16, marks: &[u8])
     requires { length table.old ≤ length marks.now }
     ensures { Moved to (length table.old) marks.now table.old table.new }
 {
+    // Kept: the marks are indexed, since after `iter_mut().zip(marks)` no proof knows what the loop wrote.
     for (s, class) in table.iter_mut().enumerate() {
         if marks[s] == BAD {
             *class = to;
