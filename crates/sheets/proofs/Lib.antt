@@ -9,5 +9,4 @@ pub mod Partitions
 pub mod Nexts
 mod Links
 mod Ranks
-mod Marks
 pub mod WholeSplits

@@ -1,34 +1,37 @@
 -- Numbering by first place.
-use Rattle.std.proofs.Common.{◌≡◌, ℕ, ◌+◌, ◌<◌, ◌≤◌, ◌≢◌, List, length, get_or, set, sym, refl, ap, ◌∙◌, inl, inr, arith, below_more}
-use Rattle.std.proofs.lemmas.Bool.{cases_eq}
-use Rattle.std.proofs.lemmas.List.{get_or-set_same, get_or-set_other, length-set}
+use Rattle.std.proofs.Common.{◌≡◌, ℕ, ◌+◌, ◌<◌, ◌≤◌, ◌≢◌, List, length, get_or, set, replicate, Some, None, Option, sym, refl, ap, ◌∙◌, inl, inr, arith, below_more}
+use Rattle.std.proofs.Math.ListN.{get_or-eq_default}
+use Rattle.std.proofs.lemmas.Bool.{cases_eq, cases_lt}
+use Rattle.std.proofs.lemmas.List.{get_or-replicate, get_or-set_same, get_or-set_other, length-replicate, length-set}
+use Rattle.std.specs.Option.{unwrap_or}
 use Rattle.sheets.specs.Numbering.{Renumbered}
 
--- The places of x before i are numbered in y, by the numbers v of what stands in x; v has 4096 for what has none yet. The entries of x are below w.
-pub record Ranking (w : ℕ) (x y v : ℕ → ℕ) (i count : ℕ) : Type 0 where
+-- The places of x before i are numbered in y, by the numbers v of what stands in x.
+pub record Ranking (x y : ℕ → ℕ) (v : ℕ → Option ℕ) (i count : ℕ) : Type 0 where
   pub few : count ≤ i
   pub rest : (s : ℕ) → i ≤ s → y s ≡ x s
-  pub named : (s : ℕ) → s < i → v (x s) ≡ y s
+  pub named : (s : ℕ) → s < i → v (x s) ≡ Some (y s)
   pub below : (s : ℕ) → s < i → y s < count
-  pub known : (a : ℕ) → a < w → v a ≢ 4096 → v a < count
-  pub apart : (a b : ℕ) → a < w → b < w → v a < count → v a ≡ v b → a ≡ b
+  pub known : (a k : ℕ) → v a ≡ Some k → k < count
+  pub apart : (a b k : ℕ) → v a ≡ Some k → v b ≡ Some k → a ≡ b
   pub occurs : (k : ℕ) → k < count → (s : ℕ) × (s < i) × (y s ≡ k)
   pub ranked : (s k : ℕ) → s < i → k < y s → (t : ℕ) × (t < s) × (y t ≡ k)
 
-pub rank_none : (w : ℕ) (x v : ℕ → ℕ) → ((a : ℕ) → a < w → v a ≡ 4096) → Ranking w x x v 0 0
-rank_none w x v blank = record {
+pub rank_none : (x : ℕ → ℕ) (v : ℕ → Option ℕ) → ((a : ℕ) → v a ≡ None) → Ranking x x v 0 0
+rank_none x v blank = record {
   few = omega arith;
   rest = λ s h. refl;
   named = λ s h. absurd (omega arith);
   below = λ s h. absurd (omega arith);
-  known = λ a h ne. absurd (ne (blank a h));
-  apart = λ a b h l e. absurd (omega arith);
+  known = λ a k e. absurd (let b = blank a in cc);
+  apart = λ a b k e f. absurd (let b = blank a in cc);
   occurs = λ k h. absurd (omega arith);
   ranked = λ s k h. absurd (omega arith);
 }
 
 -- one place more
-module _ (w : ℕ) (x y y' : ℕ → ℕ) (i count : ℕ) (v : ℕ → ℕ) (others : (s : ℕ) → s ≢ i → y' s ≡ y s) (within : x i < w) (g : Ranking w x y v i count) where
+module _ (x y y' : ℕ → ℕ) (v v' : ℕ → Option ℕ) (i count : ℕ) (others : (s : ℕ) → s ≢ i → y' s ≡ y s) (olds : (a : ℕ) → a ≢ x i → v' a ≡ v a)
+    (here : v' (x i) ≡ Some (y' i)) (g : Ranking x y v i count) where
   still : (s : ℕ) → s < i → y' s ≡ y s
   still s h = others s (omega arith)
 
@@ -48,112 +51,117 @@ module _ (w : ℕ) (x y y' : ℕ → ℕ) (i count : ℕ) (v : ℕ → ℕ) (oth
   later k h = let o = occurs_still k h in let before = o.1 in (o.0, omega arith, o.2)
 
   -- what stands there has a number
-  pub rank_old : v (x i) ≢ 4096 → y' i ≡ v (x i) → Ranking w x y' v (i + 1) count
-  rank_old numbered here =
-      let low : v (x i) < count = g.known (x i) within numbered in
+  pub rank_old : v (x i) ≡ Some (y' i) → Ranking x y' v' (i + 1) count
+  rank_old numbered =
+      let low : y' i < count = g.known (x i) (y' i) numbered in
+      let same : (a : ℕ) → v' a ≡ v a = λ a. elim (cases_eq a (x i)) [ inl e ↦ rw e (here ∙ sym numbered) | inr e ↦ olds a e ] in
       record {
         few = omega (arith, g.few);
         rest = λ s h. others s (omega arith) ∙ g.rest s (omega arith);
-        named = below_more (λ s. v (x s) ≡ y' s) i (λ s h. g.named s h ∙ sym (still s h)) (sym here);
+        named = below_more (λ s. v' (x s) ≡ Some (y' s)) i (λ s h. rw (still s h) (same (x s) ∙ g.named s h)) here;
         below = below_more (λ s. y' s < count) i (λ s h. omega (arith, still s h, g.below s h)) (omega arith);
-        known = g.known;
-        apart = g.apart;
+        known = λ a k e. g.known a k (sym (same a) ∙ e);
+        apart = λ a b k e f. g.apart a b k (sym (same a) ∙ e) (sym (same b) ∙ f);
         occurs = later;
         ranked = ranked_more (omega arith);
       }
 
   -- what stands there gets a number
-  pub rank_new : (v' : ℕ → ℕ) → i < 4096 → v (x i) ≡ 4096 → v' (x i) ≡ count → ((a : ℕ) → a ≢ x i → v' a ≡ v a) → y' i ≡ count → Ranking w x y' v' (i + 1) (count + 1)
-  rank_new v' room fresh new olds here =
-      let kept : (s : ℕ) → s < i → v' (x s) ≡ v (x s) = λ s h. olds (x s) (λ e. omega (arith, g.few, g.named s h, g.below s h, ap v e)) in
+  pub rank_new : v (x i) ≡ None → y' i ≡ count → Ranking x y' v' (i + 1) (count + 1)
+  rank_new fresh new =
+      let kept : (s : ℕ) → s < i → v' (x s) ≡ Some (y s) = λ s h. olds (x s) (λ e. let n = g.named s h in cc) ∙ g.named s h in
       record {
         few = omega (arith, g.few);
         rest = λ s h. others s (omega arith) ∙ g.rest s (omega arith);
-        named = below_more (λ s. v' (x s) ≡ y' s) i (λ s h. kept s h ∙ g.named s h ∙ sym (still s h)) (new ∙ sym here);
+        named = below_more (λ s. v' (x s) ≡ Some (y' s)) i (λ s h. rw (still s h) (kept s h)) here;
         below = below_more (λ s. y' s < count + 1) i (λ s h. omega (arith, still s h, g.below s h)) (omega arith);
-        known = λ a h ne.
+        known = λ a k e.
             elim (cases_eq a (x i)) [
-              | inl e ↦ omega (arith, ap v' e)
-              | inr e ↦ let same : v' a ≡ v a = olds a e in omega (arith, g.known a h (λ z. ne (same ∙ z)))
+              | inl same ↦ let told : k ≡ y' i = cc in omega arith
+              | inr other ↦ omega (arith, g.known a k (sym (olds a other) ∙ e))
             ];
-        apart = λ a b ha hb low e.
+        apart = λ a b k e f.
             elim (cases_eq a (x i)) [
               | inl ea ↦
                   elim (cases_eq b (x i)) [
                     | inl eb ↦ ea ∙ sym eb
-                    | inr eb ↦
-                        let same : v b ≡ count = sym (olds b eb) ∙ sym e ∙ ap v' ea ∙ new in
-                        absurd (omega (arith, g.few, g.known b hb (λ z. omega (arith, g.few))))
+                    | inr eb ↦ let told : k ≡ y' i = cc in omega (arith, g.known b k (sym (olds b eb) ∙ f))
                   ]
               | inr ea ↦
                   elim (cases_eq b (x i)) [
-                    | inl eb ↦
-                        let same : v a ≡ count = sym (olds a ea) ∙ e ∙ ap v' eb ∙ new in
-                        absurd (omega (arith, g.few, g.known a ha (λ z. omega (arith, g.few))))
-                    | inr eb ↦
-                        let same : v a ≡ v b = sym (olds a ea) ∙ e ∙ olds b eb in
-                        g.apart a b ha hb (g.known a ha (λ z. omega (arith, g.few, olds a ea))) same
+                    | inl eb ↦ let told : k ≡ y' i = cc in omega (arith, g.known a k (sym (olds a ea) ∙ e))
+                    | inr eb ↦ g.apart a b k (sym (olds a ea) ∙ e) (sym (olds b eb) ∙ f)
                   ]
             ];
-        occurs = below_more (λ k. (s : ℕ) × (s < i + 1) × (y' s ≡ k)) count later (i, omega arith, here);
+        occurs = below_more (λ k. (s : ℕ) × (s < i + 1) × (y' s ≡ k)) count later (i, omega arith, new);
         ranked = ranked_more (omega arith);
       }
 
--- the same over a table xs that has become ys, and a table of w numbers
-pub record Ranked (w : ℕ) (xs ys vs : List ℕ) (i count : ℕ) : Type 0 where
-  pub wide : length vs ≡ w
-  pub ranking : Ranking w (λ s. get_or xs s 0) (λ s. get_or ys s 0) (λ a. get_or vs a 0) i count
+-- the same over lists: a table xs that has become ys, and the numbers of 4096 entries
+pub record Ranked (xs ys : List ℕ) (vs : List (Option ℕ)) (i count : ℕ) : Type 0 where
+  pub wide : length vs ≡ 4096
+  pub ranking : Ranking (λ s. get_or xs s 0) (λ s. get_or ys s 0) (λ a. get_or vs a None) i count
 
-pub ranked_none : (w : ℕ) (xs vs : List ℕ) → length vs ≡ w → ((a : ℕ) → a < w → get_or vs a 0 ≡ 4096) → Ranked w xs xs vs 0 0
-ranked_none w xs vs wide blank = record { wide = wide; ranking = rank_none w (λ s. get_or xs s 0) (λ a. get_or vs a 0) blank }
+unnumbered : (n a : ℕ) → get_or (replicate {A = Option ℕ} n None) a None ≡ None
+unnumbered n a = elim (cases_lt a n) [ inl h ↦ get_or-replicate n a None None h | inr h ↦ get_or-eq_default (replicate {A = Option ℕ} n None) None (omega (arith, length-replicate {A = Option ℕ} n None)) ]
 
-module _ (w : ℕ) (xs ys vs : List ℕ) (i count : ℕ) (within : i < length ys) (inside : get_or xs i 0 < w) (g : Ranked w xs ys vs i count) where
-  pub ranked_here : get_or ys i 0 ≡ get_or xs i 0
-  ranked_here = g.ranking.rest i (omega arith)
+pub ranked_none : (xs : List ℕ) → Ranked xs xs (replicate {A = Option ℕ} 4096 None) 0 0
+ranked_none xs = record {
+  wide = length-replicate {A = Option ℕ} 4096 None;
+  ranking = rank_none (λ s. get_or xs s 0) (λ a. get_or (replicate {A = Option ℕ} 4096 None) a None) (unnumbered 4096);
+}
 
-  pub ranked_old : get_or vs (get_or ys i 0) 0 ≢ 4096 → Ranked w xs (set ys i (get_or vs (get_or ys i 0) 0)) vs (i + 1) count
-  ranked_old numbered =
-      let a = get_or ys i 0 in
-      record {
-        wide = g.wide;
-        ranking =
-            rank_old w (λ s. get_or xs s 0) (λ s. get_or ys s 0) (λ s. get_or (set ys i (get_or vs a 0)) s 0) i count (λ b. get_or vs b 0)
-            (λ s ne. get_or-set_other ys i s (get_or vs a 0) 0 ne) inside g.ranking
-            (λ e. numbered (ap (λ b. get_or vs b 0) ranked_here ∙ e))
-            (get_or-set_same ys i (get_or vs a 0) 0 within ∙ ap (λ b. get_or vs b 0) ranked_here);
-      }
+-- the entry a at the place i gets its number, or else the next one
+module _ (xs ys : List ℕ) (vs : List (Option ℕ)) (i a count number : ℕ) (within : i < length ys) (inside : a < 4096) (is : a ≡ get_or ys i 0) (g : Ranked xs ys vs i count) where
+  here : a ≡ get_or xs i 0
+  here = is ∙ g.ranking.rest i (omega arith)
 
-  pub ranked_new : i < 4096 → get_or vs (get_or ys i 0) 0 ≡ 4096
-      → Ranked w xs (set ys i (get_or (set vs (get_or ys i 0) count) (get_or ys i 0) 0)) (set vs (get_or ys i 0) count) (i + 1) (count + 1)
-  ranked_new room fresh =
-      let a = get_or ys i 0 in
-      let us : List ℕ = set vs a count in
-      let wrote : get_or us a 0 ≡ count = get_or-set_same vs a count 0 (omega (arith, ranked_here, g.wide)) in
-      record {
-        wide = length-set vs a count ∙ g.wide;
-        ranking =
-            rank_new w (λ s. get_or xs s 0) (λ s. get_or ys s 0) (λ s. get_or (set ys i (get_or us a 0)) s 0) i count (λ b. get_or vs b 0)
-            (λ s ne. get_or-set_other ys i s (get_or us a 0) 0 ne) inside g.ranking
-            (λ b. get_or us b 0) room
-            (ap (λ b. get_or vs b 0) (sym ranked_here) ∙ fresh)
-            (ap (λ b. get_or us b 0) (sym ranked_here) ∙ wrote)
-            (λ b ne. get_or-set_other vs a b count 0 (λ e. ne (e ∙ ranked_here)))
-            (get_or-set_same ys i (get_or us a 0) 0 within ∙ wrote);
-      }
+  wrote : get_or (set ys i number) i 0 ≡ number
+  wrote = get_or-set_same ys i number 0 within
 
-pub ranked_all : (n w : ℕ) (xs ys vs : List ℕ) (i count : ℕ) → i ≡ n → ((s : ℕ) → s < n → get_or xs s 0 < w) → Ranked w xs ys vs i count → Renumbered n xs ys count
-ranked_all n w xs ys vs i count e small r =
+  named_here : get_or (set vs a (Some number)) (get_or xs i 0) None ≡ Some (get_or (set ys i number) i 0)
+  named_here = rw (sym here, wrote) (get_or-set_same vs a (Some number) None (omega (arith, g.wide)))
+
+  others : (s : ℕ) → s ≢ i → get_or (set ys i number) s 0 ≡ get_or ys s 0
+  others s ne = get_or-set_other ys i s number 0 ne
+
+  olds : (b : ℕ) → b ≢ get_or xs i 0 → get_or (set vs a (Some number)) b None ≡ get_or vs b None
+  olds b ne = get_or-set_other vs a b (Some number) None (λ e. ne (e ∙ here))
+
+  old : (k : ℕ) → get_or vs a None ≡ Some k → number ≡ k → Ranking (λ s. get_or xs s 0) (λ s. get_or (set ys i number) s 0) (λ b. get_or (set vs a (Some number)) b None) (i + 1) count
+  old k at told =
+      rank_old (λ s. get_or xs s 0) (λ s. get_or ys s 0) (λ s. get_or (set ys i number) s 0) (λ b. get_or vs b None) (λ b. get_or (set vs a (Some number)) b None) i count others olds named_here g.ranking
+      (ap (λ b. get_or vs b None) (sym here) ∙ at ∙ ap Some (sym told ∙ sym wrote))
+
+  new : get_or vs a None ≡ None → number ≡ count → Ranking (λ s. get_or xs s 0) (λ s. get_or (set ys i number) s 0) (λ b. get_or (set vs a (Some number)) b None) (i + 1) (count + 1)
+  new at told =
+      rank_new (λ s. get_or xs s 0) (λ s. get_or ys s 0) (λ s. get_or (set ys i number) s 0) (λ b. get_or vs b None) (λ b. get_or (set vs a (Some number)) b None) i count others olds named_here g.ranking
+      (ap (λ b. get_or vs b None) (sym here) ∙ at) (wrote ∙ told)
+
+  cases : (slot : Option ℕ) → get_or vs a None ≡ slot → number ≡ unwrap_or slot count → (after : ℕ) → (number ≡ count → after ≡ count + 1) → (number ≢ count → after ≡ count)
+      → Ranking (λ s. get_or xs s 0) (λ s. get_or (set ys i number) s 0) (λ b. get_or (set vs a (Some number)) b None) (i + 1) after
+  cases (Some k) at told after up same =
+      let low : k < count = g.ranking.known a k at in
+      rw (same (λ e. omega (arith, e, told))) (old k at told)
+  cases None at told after up same = rw (up told) (new at told)
+
+  pub ranked_next : number ≡ unwrap_or (get_or vs a None) count → (after : ℕ) → (number ≡ count → after ≡ count + 1) → (number ≢ count → after ≡ count)
+      → Ranked xs (set ys i number) (set vs a (Some number)) (i + 1) after
+  ranked_next told after up same = record { wide = length-set vs a (Some number) ∙ g.wide; ranking = cases (get_or vs a None) refl told after up same }
+
+-- all places are numbered
+pub ranked_all : (xs ys : List ℕ) (vs : List (Option ℕ)) (i count : ℕ) → length xs ≤ i → i ≤ length xs → Ranked xs ys vs i count → Renumbered (length xs) xs ys count
+ranked_all xs ys vs i count all most r =
     let g = r.ranking in
-    let v : ℕ → ℕ = λ a. get_or vs a 0 in
-    let named : (s : ℕ) → s < n → v (get_or xs s 0) ≡ get_or ys s 0 = λ s h. g.named s (omega arith) in
-    let below : (s : ℕ) → s < n → get_or ys s 0 < count = λ s h. g.below s (omega arith) in
+    let v : ℕ → Option ℕ = λ a. get_or vs a None in
+    let named : (s : ℕ) → s < length xs → v (get_or xs s 0) ≡ Some (get_or ys s 0) = λ s h. g.named s (omega arith) in
     record {
       few = omega (arith, g.few);
       together = λ s t hs ht. (
-        (λ same. g.apart (get_or xs s 0) (get_or xs t 0) (small s hs) (small t ht) (omega (arith, named s hs, below s hs)) (named s hs ∙ same ∙ sym (named t ht))),
-        (λ same. sym (named s hs) ∙ ap v same ∙ named t ht),
+        (λ same. g.apart (get_or xs s 0) (get_or xs t 0) (get_or ys t 0) (rw (sym same) (named s hs)) (named t ht)),
+        (λ same. let here = named s hs in let there = named t ht in let both : v (get_or xs s 0) ≡ v (get_or xs t 0) = ap v same in cc),
       );
-      below = below;
+      below = λ s h. g.below s (omega arith);
       occurs = λ k h. let o = g.occurs k h in let before = o.1 in (o.0, omega arith, o.2);
       numbered = λ s k h l. g.ranked s k (omega arith) l;
     }

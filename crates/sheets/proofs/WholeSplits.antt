@@ -1,12 +1,13 @@
 -- The whole-state sheet at first, and after a split.
-use Rattle.std.proofs.Common.{◌≡◌, ℕ, ◌<◌, ◌≤◌, Bool, true, false, cond, eqb, ◌≢◌, ◌↔◌, List, length, get_or, sym, refl, ap, ◌∙◌, inl, inr, arith}
+use Rattle.std.proofs.Common.{◌≡◌, ℕ, ◌<◌, ◌≤◌, Bool, true, false, cond, eqb, ◌≢◌, ◌↔◌, List, ◌++◌, length, get_or, sym, refl, ap, ◌∙◌, inl, inr, arith}
+use Rattle.std.proofs.lemmas.List.{get_or_append_left}
 use Rattle.std.proofs.lemmas.Bool.{cases_eq, cond-true, cond-false, eq-eqb, ne_eqb, eqb-true, both_ways}
 use Rattle.rules.specs.Rules.{Rules}
 use Rattle.sheets.specs.Classes.{Classes, states, class, Lawful}
-use Rattle.sheets.specs.Numbering.{bit, Moved, Renumbered}
+use Rattle.sheets.specs.Numbering.{bit, Moved, Numberable, Renumbered}
 use Rattle.sheets.specs.Splits.{Splittable, SplitInto}
 use Rattle.sheets.specs.Structure.{any}
-use Rattle.sheets.specs.Tables.{table_classes}
+use Rattle.sheets.specs.Tables.{table_classes, listed}
 use Rattle.sheets.specs.Whole.{Numbered, FirstWhole, WholeSplit}
 use Rattle.sheets.proofs.Any.{some_from_any, any_from_some}
 use Rattle.sheets.proofs.Counts.{count_fewer}
@@ -47,6 +48,21 @@ module _ (n : ℕ) (xs ys : List ℕ) (count : ℕ) (room : n ≤ length ys) (an
     (λ e. table_class count n ys s hs ∙ (anew.together s t hs ht).1 e ∙ sym (table_class count n ys t ht)),
   )
 
+-- the numbers of a slice stand in front of the table that it was taken from
+pub front_renumbered : (xs ys rest : List ℕ) (n count : ℕ) → length ys ≡ n → length xs ≡ n → Renumbered (length xs) xs ys count → Renumbered n xs (ys ++ rest) count
+front_renumbered xs ys rest n count size same anew =
+    let front : (s : ℕ) → s < length xs → get_or (ys ++ rest) s 0 ≡ get_or ys s 0 = λ s h. get_or_append_left ys rest 0 s (omega arith) in
+    rw (sym same) record {
+      few = anew.few;
+      together = λ s t hs ht. rw (front s hs, front t ht) (anew.together s t hs ht);
+      below = λ s h. rw (front s h) (anew.below s h);
+      occurs = λ k h. let o = anew.occurs k h in (o.0, o.1, front o.0 o.1 ∙ o.2);
+      numbered = λ s k h l.
+          let o = anew.numbered s k h (omega (arith, front s h)) in
+          let before = o.1 in
+          (o.0, before, front o.0 (omega arith) ∙ o.2);
+    }
+
 -- ── At first ──
 
 bit_same : (a b : Bool) → bit a ≡ bit b → a ≡ b
@@ -58,6 +74,9 @@ bit_same false false e = refl
 pub bit_most : (a : Bool) → bit a ≤ 1
 bit_most true = omega arith
 bit_most false = omega arith
+
+pub bits_numberable : (p : ℕ → Bool) (xs : List ℕ) → length xs ≤ 4096 → ((s : ℕ) → s < length xs → get_or xs s 0 ≡ bit (p s)) → Numberable xs
+bits_numberable p xs few bits = record { few = few; small = λ s h. omega (arith, bits s h, bit_most (p s)) }
 
 pub first_whole : (r : Rules) (n : ℕ) (xs ys : List ℕ) (count : ℕ) → n ≡ r.size → n ≤ length ys
     → ((s : ℕ) → s < n → get_or xs s 0 ≡ bit (r.breaks s)) → Renumbered n xs ys count → FirstWhole r (table_classes count n ys)
@@ -95,52 +114,52 @@ split_room c k marks lawful may =
     count_fewer c lawful dead.0 bad.0 dead.1 bad.1 (λ e. omega (arith, dead.2, bad.2, ap (λ s. get_or marks s 0) e))
     (may.inside dead.0 dead.1 (omega (arith, dead.2)) ∙ sym (may.inside bad.0 bad.1 (omega (arith, bad.2))))
 
-module _ (count n k : ℕ) (xs ys marks : List ℕ) (room : n ≤ length xs) (may : Splittable (table_classes count n xs) k marks) (moved : Moved count n marks xs ys)
-    (below : (s : ℕ) → s < n → get_or xs s 0 < count) where
-  at_bad : (s : ℕ) → s < n → get_or marks s 0 ≡ 2 → get_or ys s 0 ≡ count
+module _ (count k : ℕ) (xs ys marks : List ℕ) (lawful : Lawful (listed count xs)) (may : Splittable (listed count xs) k marks) (size : length ys ≡ length xs)
+    (moved : Moved count (length xs) marks xs ys) where
+  at_bad : (s : ℕ) → s < length xs → get_or marks s 0 ≡ 2 → get_or ys s 0 ≡ count
   at_bad s h e = moved s h ∙ cond-true (eqb (get_or marks s 0) 2) count (get_or xs s 0) (eq-eqb (get_or marks s 0) 2 e)
 
-  at_other : (s : ℕ) → s < n → get_or marks s 0 ≢ 2 → get_or ys s 0 ≡ get_or xs s 0
+  at_other : (s : ℕ) → s < length xs → get_or marks s 0 ≢ 2 → get_or ys s 0 ≡ get_or xs s 0
   at_other s h e = moved s h ∙ cond-false (eqb (get_or marks s 0) 2) count (get_or xs s 0) (ne_eqb (get_or marks s 0) 2 e)
 
-  bad_class : (s : ℕ) → s < n → get_or marks s 0 ≡ 2 → get_or xs s 0 ≡ k
-  bad_class s h e = sym (table_class count n xs s h) ∙ may.inside s (omega (arith, table_states count n xs room)) (omega arith)
+  bad_class : (s : ℕ) → s < length xs → get_or marks s 0 ≡ 2 → get_or xs s 0 ≡ k
+  bad_class s h e = may.inside s h (omega arith)
 
-  pub moved_most : (s : ℕ) → s < n → get_or ys s 0 ≤ count
-  moved_most s h = elim (cases_eq (get_or marks s 0) 2) [ inl e ↦ omega (arith, at_bad s h e) | inr e ↦ omega (arith, at_other s h e, below s h) ]
+  moved_most : (s : ℕ) → s < length xs → get_or ys s 0 ≤ count
+  moved_most s h = elim (cases_eq (get_or marks s 0) 2) [ inl e ↦ omega (arith, at_bad s h e) | inr e ↦ omega (arith, at_other s h e, lawful.below s h) ]
+
+  pub moved_numberable : length xs ≤ 4096 → Numberable ys
+  moved_numberable few = record { few = omega arith; small = λ s h. omega (arith, moved_most s (omega arith), split_room (listed count xs) k marks lawful may) }
 
   -- entries are equal after the move exactly where they were and both or neither moved
-  moved_together : (s t : ℕ) → s < n → t < n → (get_or ys s 0 ≡ get_or ys t 0) ↔ ((get_or xs s 0 ≡ get_or xs t 0) × (eqb (get_or marks s 0) 2 ≡ eqb (get_or marks t 0) 2))
+  moved_together : (s t : ℕ) → s < length xs → t < length xs → (get_or ys s 0 ≡ get_or ys t 0) ↔ ((get_or xs s 0 ≡ get_or xs t 0) × (eqb (get_or marks s 0) 2 ≡ eqb (get_or marks t 0) 2))
   moved_together s t hs ht = (
     (λ e.
         elim (cases_eq (get_or marks s 0) 2) [
           | inl a ↦
               elim (cases_eq (get_or marks t 0) 2) [
                 | inl b ↦ (bad_class s hs a ∙ sym (bad_class t ht b), eq-eqb _ 2 a ∙ sym (eq-eqb _ 2 b))
-                | inr b ↦ absurd (omega (arith, at_bad s hs a, at_other t ht b, below t ht))
+                | inr b ↦ absurd (omega (arith, at_bad s hs a, at_other t ht b, lawful.below t ht))
               ]
           | inr a ↦
               elim (cases_eq (get_or marks t 0) 2) [
-                | inl b ↦ absurd (omega (arith, at_bad t ht b, at_other s hs a, below s hs))
+                | inl b ↦ absurd (omega (arith, at_bad t ht b, at_other s hs a, lawful.below s hs))
                 | inr b ↦ (sym (at_other s hs a) ∙ e ∙ at_other t ht b, ne_eqb _ 2 a ∙ sym (ne_eqb _ 2 b))
               ]
         ]),
     (λ e. moved s hs ∙ ap (λ a. cond (eqb (get_or marks s 0) 2) count a) e.0 ∙ ap (λ b. cond b count (get_or xs t 0)) e.1 ∙ sym (moved t ht)),
   )
 
-  pub split_whole : (zs : List ℕ) (after : ℕ) → n ≤ length zs → Renumbered n ys zs after → WholeSplit (table_classes count n xs) marks (table_classes after n zs)
-  split_whole zs after space anew =
-      let size = table_states count n xs room in
+  pub split_whole : (n : ℕ) (zs : List ℕ) (after : ℕ) → n ≡ length ys → n ≤ length zs → Renumbered n ys zs after → WholeSplit (listed count xs) marks (table_classes after n zs)
+  split_whole n zs after known space anew =
+      let sized = table_states after n zs space in
       record {
         lawful = renumbered_lawful n ys zs after space anew;
-        states_are = omega (arith, table_states after n zs space);
+        states_are = omega arith;
         together = λ s t hs ht.
             let ls : s < n = omega arith in
             let lt : t < n = omega arith in
-            let same = renumbered_together n ys zs after space anew s t ls lt in
-            let moving = moved_together s t ls lt in (
-              (λ e. let both = moving.0 (same.0 e) in (table_class count n xs s ls ∙ both.0 ∙ sym (table_class count n xs t lt), both.1)),
-              (λ e. same.1 (moving.1 (sym (table_class count n xs s ls) ∙ e.0 ∙ table_class count n xs t lt, e.1))),
-            );
+            let named = renumbered_together n ys zs after space anew s t ls lt in
+            let moving = moved_together s t hs ht in ((λ e. moving.0 (named.0 e)), (λ e. named.1 (moving.1 e)));
         numbered = renumbered_numbered n ys zs after space anew;
       }

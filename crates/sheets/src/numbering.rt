@@ -1,23 +1,31 @@
 //! Class numbers in the order of the lowest members.
-ghost use Rattle.std.specs.Prelude.{ℕ, ◌<◌, ◌≤◌, length, Decides};
-ghost use Rattle.sheets.specs.Numbering.{Numberable, NumberGives};
+ghost use Rattle.std.specs.Prelude.{length, Decides};
+ghost use Rattle.sheets.specs.Numbering.{Numberable, NumberGives, Renumbered};
 
-use crate::whole::{UNNUMBERED, renumber};
 use rules::list::MOST_STATES;
 
 /// Whether a table has at most 4,096 entries, each below 4,096.
 fn is_numberable(table: &[u16]) -> bool
     ensures { Decides result (Numberable table.now) }
 {
-    if table.len() > MOST_STATES {
-        return false;
-    }
-    for x in table {
-        if *x >= UNNUMBERED {
-            return false;
+    table.len() <= MOST_STATES && table.iter().all(|x| usize::from(*x) < MOST_STATES)
+}
+
+/// Numbers the entries of a table in the order of their first places, and returns how many numbers there are.
+pub(crate) fn renumber(table: &mut [u16]) -> u16
+    requires { Numberable table.old }
+    ensures { Renumbered (length table.old) table.old table.new result }
+{
+    let mut numbers = [None; MOST_STATES];
+    let mut count = 0;
+    for x in table.iter_mut() {
+        let number = *numbers[usize::from(*x)].get_or_insert(count);
+        if number == count {
+            count += 1;
         }
+        *x = number;
     }
-    true
+    count
 }
 
 /// Numbers the entries of a table in the order of their first places, and returns how many numbers there are. A table with over 4,096
@@ -25,9 +33,9 @@ fn is_numberable(table: &[u16]) -> bool
 pub fn number_entries(table: &mut [u16]) -> Option<u16>
     ensures { NumberGives table.old result table.new }
 {
-    if !is_numberable(table) {
-        return None;
+    if is_numberable(table) {
+        Some(renumber(table))
+    } else {
+        None
     }
-    let n = table.len();
-    Some(renumber(table, n))
 }
