@@ -16,29 +16,11 @@ pub fn same(a: &[u8], b: &[u8]) -> bool
     a == b
 }
 
-fn in_range(b: u8, low: u8, high: u8) -> bool
-    ensures { result ≡ within low high b }
-{
-    low <= b && b <= high
-}
-
-/// Whether each byte is in a range.
-fn all_in_range(word: &[u8], low: u8, high: u8) -> bool
-    ensures { result ≡ each (within low high) word.now }
-{
-    for b in word {
-        if !in_range(*b, low, high) {
-            return false;
-        }
-    }
-    true
-}
-
 /// Whether a word has a meaning of its own in conditions, so that it names no variable.
 fn is_reserved(word: &[u8]) -> bool
     ensures { result ≡ reserved word.now }
 {
-    same(word, b"always") || same(word, b"and") || same(word, b"or") || same(word, b"not")
+    matches!(word, b"always" | b"and" | b"or" | b"not")
 }
 
 /// Whether a word is a name: 1 to 8 letters from a to z, and not reserved.
@@ -47,7 +29,7 @@ pub fn is_name(word: &[u8]) -> bool
 {
     !word.is_empty()
         && word.len() <= MOST_LETTERS
-        && all_in_range(word, b'a', b'z')
+        && word.iter().all(u8::is_ascii_lowercase)
         && !is_reserved(word)
 }
 
@@ -68,7 +50,7 @@ fn decimal_value(word: &[u8]) -> u16
 pub fn number_of(word: &[u8]) -> Option<u16>
     ensures { result ≡ number_of word.now }
 {
-    if word.is_empty() || word.len() > MOST_DIGITS || !all_in_range(word, b'0', b'9') {
+    if word.is_empty() || word.len() > MOST_DIGITS || !word.iter().all(u8::is_ascii_digit) {
         return None;
     }
     if word.len() > 1 && word[0] == b'0' {
