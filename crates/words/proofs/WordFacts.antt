@@ -1,11 +1,14 @@
 -- Tests along a list of bytes or words, element by element.
-use Rattle.std.proofs.Common.{◌≡◌, ℕ, ◌+◌, ◌<◌, ◌≤◌, Bool, true, false, not, cond, ◌&&◌, eqb, List, [], ◌∷◌, length, get_or, drop, sym, refl, ap, ◌∙◌, arith}
+use Rattle.std.proofs.Common.{lit<, ◌*◌, ◌-◌, ◌^◌, Bor, Iter, Some, ◌≡◌, ℕ, ◌+◌, ◌<◌, ◌≤◌, Bool, true, false, not, cond, ◌&&◌, eqb, List, [], ◌∷◌, length, get_or, drop, sym, refl, ap, add-one, ◌∙◌, arith}
 use Rattle.std.proofs.lemmas.List.{at_drop_more}
 use Rattle.std.proofs.lemmas.Grind.{common_steps}
 use Rattle.std.proofs.lemmas.Bool.{and_parts, leb-true, ne_eqb, false≢true}
-use Rattle.std.specs.List.{list_all, slice_split, onto_first}
+use Rattle.std.proofs.Math.Nat.{pow-suc, pow-le-pow_right}
+use Rattle.std.specs.Iterator.{Yields}
+use Rattle.std.proofs.lemmas.Fn.{fronts}
+use Rattle.std.specs.List.{FoldsTo, fold, list_all, slice_split, onto_first}
 use Rattle.words.specs.Texts.{spaced}
-use Rattle.words.specs.Words.{Word, opens_with, after_first, each, within}
+use Rattle.words.specs.Words.{digit, decimal, Word, opens_with, after_first, each}
 
 -- `each` is what the library calls `list_all`
 pub each_is : {A : Type 0} (f : A → Bool) (xs : List A) → each f xs ≡ list_all f xs
@@ -21,18 +24,36 @@ pub spelled : (w : List ℕ) (i : ℕ) (v : List ℕ) → Spells w i v → drop 
 spelled w i [] h = grind (arith, common_steps, h)
 spelled w i (b ∷ v) h = at_drop_more (λ l. l) w i 0 h.0 ∙ (λ j. h.1 j ∷ spelled w (i + 1) v h.2 j)
 
--- each is in a range, so the next is, and each behind it
-module _ (low high : ℕ) (xs : List ℕ) (i : ℕ) (lt : i < length xs) (all : each (within low high) (drop i xs) ≡ true) where
-  both_parts : (within low high (get_or xs i 0) ≡ true) × (each (within low high) (drop (i + 1) xs) ≡ true)
-  both_parts = and_parts _ _ (sym (at_drop_more (each (within low high)) xs i 0 lt) ∙ all)
+-- a digit behind those that wrote n
+pub decimal_is : (n : ℕ) (bs : List ℕ) → fold (λ m b. m * 10 + (b - 48)) n bs ≡ decimal n bs
+decimal_is n [] = refl
+decimal_is n (b ∷ bs) = decimal_is (n * 10 + (b - 48)) bs
 
-  pub range_here : (low ≤ get_or xs i 0) × (get_or xs i 0 ≤ high)
-  range_here =
-      let p = and_parts _ _ both_parts.0 in
-      (leb-true _ _ p.0, leb-true _ _ p.1)
+digit_range : (b : ℕ) → digit b ≡ true → (48 ≤ b) × (b ≤ 57)
+digit_range b e =
+    let p = and_parts _ _ e in
+    (leb-true _ _ p.0, leb-true _ _ p.1)
 
-  pub range_more : each (within low high) (drop (i + 1) xs) ≡ true
-  range_more = both_parts.1
+digits_parts : (bs : List ℕ) (b : ℕ) (more : List ℕ) → bs ≡ b ∷ more → each digit bs ≡ true → (48 ≤ b) × (b ≤ 57) × (each digit more ≡ true)
+digits_parts bs b more is e =
+    let p = and_parts _ _ (sym (ap (each digit) is) ∙ e) in
+    let range = digit_range b p.0 in
+    (range.0, range.1, p.1)
+
+-- a fold that writes at most four digits: before each, its number is small
+module _ {F : Type 0} (R : F × ℕ → Bor ℕ → F × ℕ → Type 0) (writes : (p : F × ℕ) (x : Bor ℕ) (v : F × ℕ) → R p x v → v.1 ≡ p.1 * 10 + (x.now - 48)) where
+  pub few_digits : (k : ℕ) (xs : List (Bor ℕ)) (s t u : Iter ℕ) (p q : F × ℕ) (x : Bor ℕ) → p.1 < 10 ^ k → k + length s.rest.now ≤ 4 → each digit s.rest.now ≡ true → Yields fronts s xs t → FoldsTo R p xs q → fronts t (Some x) u → (q.1 < 1000) × (48 ≤ x.now) × (x.now ≤ 57)
+  few_digits k [] s t u p q x small few digits same ends turn =
+      let here : s.rest.now ≡ x.now ∷ u.rest.now = ap (λ (z : Iter ℕ). z.rest.now) same ∙ turn in
+      let range = digits_parts _ _ _ here digits in
+      let le : k ≤ 3 = omega (arith, ap length here) in
+      let pos : 0 < 10 = lit< tt in
+      let most : 10 ^ k ≤ 10 ^ 3 = pow-le-pow_right pos le in
+      (omega (arith, ap (λ (r : F × ℕ). r.1) ends), range.0, range.1)
+  few_digits k (y ∷ xs) s t u p q x small few digits go chain turn =
+      let parts = digits_parts _ _ _ go.1 digits in
+      let next : 10 ^ (k + 1) ≡ 10 ^ k * 10 = ap (λ n. 10 ^ n) (add-one k) ∙ pow-suc 10 k in
+      few_digits (k + 1) xs go.0 t u chain.0 q x (omega (arith, next, writes p y chain.0 chain.1, parts.0, parts.1)) (omega (arith, ap length go.1)) parts.2 go.2 chain.2 turn
 
 -- not empty
 abbrev pub full : List ℕ → Bool

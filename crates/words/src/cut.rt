@@ -1,5 +1,5 @@
 //! Bytes cut at a byte.
-ghost use Rattle.std.specs.Prelude.{◌≡◌, ℕ, ◌<◌, ◌≤◌, [], ◌∷◌, length, ◌≢◌, slice_index, MatchOption, IfSome};
+ghost use Rattle.std.specs.Prelude.{◌≡◌, ◌<◌, [], ◌∷◌, length, MatchOption, IfSome};
 ghost use Rattle.words.specs.Pieces.{pieces};
 
 /// The first piece of some bytes, and what stands behind the byte that ends it.
@@ -9,8 +9,8 @@ pub(crate) struct Cut<'a> {
     pub(crate) rest: &'a [u8],
 }
 
-/// The first piece of some bytes, or None where there are none.
-pub(crate) fn first_piece<'a>(s: &'a [u8], end: u8) -> Option<Cut<'a>>
+/// The first piece of some bytes, up to the first `end`, or None where there are no bytes.
+pub(crate) fn first_piece(s: &[u8], end: u8) -> Option<Cut<'_>>
     ensures cuts { MatchOption result (s.now ≡ []) (λ c. pieces end s.now ≡ c.piece.now ∷ pieces end c.rest.now) }
     ensures shorter { IfSome result (λ c. length c.rest.now < length s.now) }
 {

@@ -30,6 +30,7 @@ fn is_spaced(line: &[u8]) -> bool
     line.split(|b| *b == b' ').all(|word| !word.is_empty())
 }
 
+/// Whether bytes are a line: at most 120 of them, in words one space apart.
 fn is_line(line: &[u8]) -> bool
     ensures { result ≡ is_line line.now }
 {
