@@ -13,7 +13,7 @@ use crate::variable::{Variable, place_of};
 use std::alloc::Global;
 use words::fault::WordFault;
 use words::line::Line;
-use words::word::{is_name, number_of, same};
+use words::word::{is_name, number_of};
 
 /// The condition that the rest of a line is.
 pub fn whole_condition(
@@ -110,49 +110,36 @@ fn comparison(line: &mut Line<'_>, known: &[Variable<'_>]) -> Result<Cond, WordF
     ensures same { line.new.number ≡ line.old.number }
 {
     let fault = WordFault::Form(line.number);
-    let Some(name) = line.next_token() else {
-        return Err(fault);
-    };
-    let Some(sign) = line.next_token() else {
-        return Err(fault);
-    };
-    let Some(other) = line.next_token() else {
-        return Err(fault);
-    };
+    let name = line.next_token().ok_or(fault)?;
+    let sign = line.next_token().ok_or(fault)?;
+    let other = line.next_token().ok_or(fault)?;
     if !is_name(name.text) {
         return Err(fault);
     }
-    let Some(relation) = relation_of(sign.text) else {
-        return Err(fault);
-    };
-    let Some(operand) = operand_of(known, other.text) else {
-        return Err(fault);
-    };
+    let relation = relation_of(sign.text).ok_or(fault)?;
+    let operand = operand_of(known, other.text).ok_or(fault)?;
     Ok(Cond::Compare(place_of(known, name.text), relation, operand))
 }
 
+/// What a sign of a comparison says.
 fn relation_of(word: &[u8]) -> Option<Relation>
     ensures { result ≡ relation word.now }
 {
-    if same(word, b"=") {
-        return Some(Relation::Equal);
+    match word {
+        b"=" => Some(Relation::Equal),
+        b"<" => Some(Relation::Less),
+        _ => None,
     }
-    if same(word, b"<") {
-        return Some(Relation::Less);
-    }
-    None
 }
 
+/// The right side that a word is: a name or a number.
 fn operand_of(known: &[Variable<'_>], word: &[u8]) -> Option<Operand>
     ensures { result ≡ operand (names_of known.now) word.now }
 {
     if is_name(word) {
         return Some(Operand::Variable(place_of(known, word)));
     }
-    match number_of(word) {
-        Some(n) => Some(Operand::Number(n)),
-        None => None,
-    }
+    number_of(word).map(Operand::Number)
 }
 
 /// The parser takes exactly the words that the grammar derives, at their meaning.
