@@ -33,7 +33,6 @@ pub fn whole_condition(
 }
 
 /// The condition that a line begins with: conditions joined by `or`.
-#[cycle(conjunction_disjunction_negation_primary)]
 pub fn disjunction(
     line: &mut Line<'_>,
     heap: Global,
@@ -41,67 +40,72 @@ pub fn disjunction(
 ) -> Result<Cond, ConditionFault>
     ensures { Reads (names_of known.now) or_level line.old result line.new }
 {
-    let first = conjunction(line, heap, known)?;
-    if !line.skip(b"or") {
-        return Ok(first);
-    }
-    let second = disjunction(line, heap, known)?;
-    Ok(Cond::Or(Box::new(heap, first)?, Box::new(heap, second)?))
+    Parser { heap, known }.disjunction(line)
 }
 
-/// Conditions joined by `and`.
-#[cycle(conjunction_disjunction_negation_primary)]
-fn conjunction(
-    line: &mut Line<'_>,
+/// What the reader of conditions stands on: the heap that the trees are put in, and the variables that they may name.
+#[derive(Clone, Copy)]
+struct Parser<'p, 'a> {
     heap: Global,
-    known: &[Variable<'_>],
-) -> Result<Cond, ConditionFault>
-    ensures { Reads (names_of known.now) and_level line.old result line.new }
-{
-    let first = negation(line, heap, known)?;
-    if !line.skip(b"and") {
-        return Ok(first);
-    }
-    let second = conjunction(line, heap, known)?;
-    Ok(Cond::And(Box::new(heap, first)?, Box::new(heap, second)?))
+    known: &'p [Variable<'a>],
 }
 
-/// A condition with any number of `not` in front.
-#[cycle(conjunction_disjunction_negation_primary)]
-fn negation(
-    line: &mut Line<'_>,
-    heap: Global,
-    known: &[Variable<'_>],
-) -> Result<Cond, ConditionFault>
-    ensures { Reads (names_of known.now) not_level line.old result line.new }
-{
-    if line.skip(b"not") {
-        let inner = negation(line, heap, known)?;
-        return Ok(Cond::Not(Box::new(heap, inner)?));
-    }
-    primary(line, heap, known)
-}
-
-/// A condition in brackets, `always` or a comparison.
-#[cycle(conjunction_disjunction_negation_primary)]
-fn primary(
-    line: &mut Line<'_>,
-    heap: Global,
-    known: &[Variable<'_>],
-) -> Result<Cond, ConditionFault>
-    ensures { Reads (names_of known.now) base_level line.old result line.new }
-{
-    if line.skip(b"(") {
-        let inner = disjunction(line, heap, known)?;
-        if !line.skip(b")") {
-            return Err(ConditionFault::Word(WordFault::Form(line.number)));
+impl<'p, 'a> Parser<'p, 'a> {
+    /// Conditions joined by `or`.
+    #[cycle(parser)]
+    fn disjunction(&self, line: &mut Line<'_>) -> Result<Cond, ConditionFault>
+        ensures { Reads (names_of self.now.known.now) or_level line.old result line.new }
+    {
+        let first = self.conjunction(line)?;
+        if !line.skip(b"or") {
+            return Ok(first);
         }
-        return Ok(inner);
+        let second = self.disjunction(line)?;
+        Ok(Cond::Or(Box::new(self.heap, first)?, Box::new(self.heap, second)?))
     }
-    if line.skip(b"always") {
-        return Ok(Cond::Always);
+
+    /// Conditions joined by `and`.
+    #[cycle(parser)]
+    fn conjunction(&self, line: &mut Line<'_>) -> Result<Cond, ConditionFault>
+        ensures { Reads (names_of self.now.known.now) and_level line.old result line.new }
+    {
+        let first = self.negation(line)?;
+        if !line.skip(b"and") {
+            return Ok(first);
+        }
+        let second = self.conjunction(line)?;
+        Ok(Cond::And(Box::new(self.heap, first)?, Box::new(self.heap, second)?))
     }
-    Ok(comparison(line, known)?)
+
+    /// A condition with any number of `not` in front.
+    #[cycle(parser)]
+    fn negation(&self, line: &mut Line<'_>) -> Result<Cond, ConditionFault>
+        ensures { Reads (names_of self.now.known.now) not_level line.old result line.new }
+    {
+        if line.skip(b"not") {
+            let inner = self.negation(line)?;
+            return Ok(Cond::Not(Box::new(self.heap, inner)?));
+        }
+        self.primary(line)
+    }
+
+    /// A condition in brackets, `always` or a comparison.
+    #[cycle(parser)]
+    fn primary(&self, line: &mut Line<'_>) -> Result<Cond, ConditionFault>
+        ensures { Reads (names_of self.now.known.now) base_level line.old result line.new }
+    {
+        if line.skip(b"(") {
+            let inner = self.disjunction(line)?;
+            if !line.skip(b")") {
+                return Err(ConditionFault::Word(WordFault::Form(line.number)));
+            }
+            return Ok(inner);
+        }
+        if line.skip(b"always") {
+            return Ok(Cond::Always);
+        }
+        Ok(comparison(line, self.known)?)
+    }
 }
 
 /// A name, `=` or `<`, then a name or a number.
