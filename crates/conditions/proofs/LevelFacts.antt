@@ -1,14 +1,14 @@
 -- The exits of the functions that read conditions, level by level.
 use Rattle.std.proofs.Common.{◌≡◌, ℕ, zero, suc, ◌<◌, ◌≤◌, true, false, List, [], ◌∷◌, length, Some, None, Ok, Err, codes, Option, Result, sym, refl, ap, ◌∙◌, subst, subst₂, arith}
+use Rattle.std.specs.Option.{MatchOption, ok_or}
 use Rattle.std.proofs.lemmas.Bool.{cond-false, cond_both}
 use Rattle.words.specs.Lines.{left}
 use Rattle.words.specs.Words.{Word, opens_with, after_first, is_name}
 use Rattle.words.specs.declared.line.Line.{Line}
-use Rattle.words.specs.declared.fault.WordFault.{WordFault}
 use Rattle.words.specs.declared.fault.WordFault.TheVariants.{Form}
 use Rattle.words.proofs.WordFacts.{after_shorter, opens_some}
 use Rattle.conditions.specs.Conditions.{Tree, always, not, tree}
-use Rattle.conditions.specs.Answers.{Unformed, Parses, ParsedAs, Shorter, Reads}
+use Rattle.conditions.specs.Answers.{Unformed, ParsedAs, Shorter, Reads}
 use Rattle.conditions.specs.Parser.{Parsed, joined, comparison, compared, parse, rank, depth}
 use Rattle.conditions.specs.Grammar.{Level, or_level, not_level, base_level, relation, operand}
 use Rattle.conditions.specs.declared.condition.Relation.{Relation}
@@ -172,16 +172,15 @@ module _ (names : List Word) (a z : Line) (s : opens_with (codes "(") (left a) �
     plain : (n : ℕ) → parse names (suc n) base_level (left a) ≡ comparison names (left a)
     plain n = cond-false _ _ _ s ∙ cond-false _ _ _ o
 
-    pub base_compares : (c : Cond) → Parses tree (comparison names (left a)) a.number (Ok c) (left z) → Reads names base_level a (Ok c) z
-    base_compares c h = record {
+    -- what was compared, or else a fault of form on the line m
+    pub base_compares : (r : Option Cond) (m : ℕ) → m ≡ a.number → MatchOption r (comparison names (left a) ≡ None) (λ c. comparison names (left a) ≡ Some (tree c, left z)) → Reads names base_level a (ok_or r (fault.Word (Form m))) z
+    base_compares None m is h = record {
+      same = same;
+      shorter = tt;
+      says = deep _ (λ n. ParsedAs (parse names n base_level (left a)) a.number (Err (fault.Word (Form m))) (left z)) (omega arith) (λ n le. (plain n ∙ h, ap Form is));
+    }
+    base_compares (Some c) m is h = record {
       same = same;
       shorter = leaves_shorter (left a) (left z) c _ (comparison_leaves names (left a)) h;
       says = deep _ (λ n. ParsedAs (parse names n base_level (left a)) a.number (Ok c) (left z)) (omega arith) (λ n le. plain n ∙ h);
-    }
-
-    pub base_compare_fails : (e : WordFault) → Parses tree (comparison names (left a)) a.number (Err e) (left z) → Reads names base_level a (Err (fault.Word e)) z
-    base_compare_fails e h = record {
-      same = same;
-      shorter = tt;
-      says = deep _ (λ n. ParsedAs (parse names n base_level (left a)) a.number (Err (fault.Word e)) (left z)) (omega arith) (λ n le. subst (λ p. ParsedAs p a.number (Err (fault.Word e)) (left z)) (sym (plain n)) h);
     }

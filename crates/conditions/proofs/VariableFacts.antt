@@ -1,14 +1,14 @@
 -- Where a name stands among the variables.
-use Rattle.std.proofs.Common.{Bor, Option, MatchOption, ltb, cond, Some, None, ◌≡◌, ℕ, zero, suc, ◌<◌, ◌≤◌, List, [], ◌∷◌, length, get_or, sym, refl, ap, ◌∙◌, arith}
+use Rattle.std.proofs.Common.{Bool, true, false, ◌||◌, Bor, Option, MatchOption, ltb, cond, Some, None, ◌≡◌, ℕ, zero, suc, ◌<◌, ◌≤◌, List, [], ◌∷◌, length, get_or, sym, refl, ap, ◌∙◌, arith}
 use Rattle.std.specs.Str.{bytes_eq}
 use Rattle.std.specs.Option.{unwrap_or}
 use Rattle.std.specs.Slice.{IsItemAt}
-use Rattle.std.specs.List.{position, position_or_len}
+use Rattle.std.specs.List.{list_any, position, position_or_len}
 use Rattle.std.proofs.lemmas.List.Sums.{prefix_len-le-length}
 use Rattle.std.proofs.lemmas.List.Recursion.{is_position_or_len}
 use Rattle.std.proofs.lemmas.Bool.Decides.{nat_tests}
 use Rattle.words.specs.Words.{Word}
-use Rattle.conditions.specs.Variables.{names_of, place, size_at, vars_of}
+use Rattle.conditions.specs.Variables.{declared, names_of, place, size_at, vars_of}
 use Rattle.conditions.specs.declared.variable.Variable.{Variable}
 
 pub place_first : (ds : List Variable) (w : Word) → unwrap_or (position (λ (d : Variable). bytes_eq d.name.now w) ds) (length ds) ≡ place (names_of ds) w
@@ -19,9 +19,13 @@ place_first ds w =
     within : (i n : ℕ) → i ≤ n → unwrap_or (cond (ltb i n) (Some i) None) n ≡ i
     within i n le = grind (arith, nat_tests)
 
-pub length_names : (vs : List Variable) → length (names_of vs) ≡ length vs
-length_names [] = refl
-length_names (v ∷ vs) = ap suc (length_names vs)
+pub declared_is : (ds : List Variable) (w : Word) → list_any (λ (d : Variable). bytes_eq d.name.now w) ds ≡ declared (names_of ds) w
+declared_is [] w = refl
+declared_is (d ∷ ds) w = step (bytes_eq d.name.now w) _ _ _ (declared_is ds w)
+  where
+    step : (b r : Bool) (p n : ℕ) → r ≡ ltb p n → (b || r) ≡ ltb (cond b 0 (suc p)) (suc n)
+    step true r p n e = grind (arith, nat_tests)
+    step false r p n e = grind (arith, nat_tests)
 
 pub size_at_is : (vs : List Variable) (k : ℕ) (x : Variable) → k < length vs → x ≡ get_or vs k x → size_at (vars_of vs) k ≡ x.size
 size_at_is [] k x lt is = absurd (omega arith)

@@ -1,7 +1,7 @@
 //! Conditions read from the words of a line, by functions that call each other: the words that are left fall.
-ghost use Rattle.std.specs.Prelude.{◌≡◌};
+ghost use Rattle.std.specs.Prelude.{◌≡◌, MatchOption};
 ghost use Rattle.words.specs.Lines.{left};
-ghost use Rattle.conditions.specs.Answers.{Formed, Parses, ParserExact, Reads, Takes};
+ghost use Rattle.conditions.specs.Answers.{Formed, ParserExact, Reads, Takes};
 ghost use Rattle.conditions.specs.Conditions.{tree};
 ghost use Rattle.conditions.specs.Grammar.{relation, operand, or_level, and_level, not_level, base_level};
 ghost use Rattle.conditions.specs.Parser.{alone, comparison, condition};
@@ -24,12 +24,11 @@ pub fn whole_condition(
     ensures takes { Takes (names_of known.now) (left line.old) line.old.number result }
     ensures formed { Formed tree (alone (condition (names_of known.now) (left line.old))) line.old.number result }
 {
-    let fault = WordFault::Form(line.number);
     let cond = disjunction(line, heap, known)?;
-    if line.next_token().is_some() {
-        return Err(ConditionFault::Word(fault));
+    match line.next_token() {
+        None => Ok(cond),
+        Some(word) => Err(ConditionFault::Word(WordFault::Form(word.line))),
     }
-    Ok(cond)
 }
 
 /// The condition that a line begins with: conditions joined by `or`.
@@ -65,6 +64,7 @@ impl<'p, 'a> Parser<'p, 'a> {
     }
 
     /// Conditions joined by `and`.
+    // Kept: one function for this and `disjunction` would take the level below, itself and the variant as closures, each with a contract that the words left fall.
     #[cycle(parser)]
     fn conjunction(&self, line: &mut Line<'_>) -> Result<Cond, ConditionFault>
         ensures { Reads (names_of self.now.known.now) and_level line.old result line.new }
@@ -104,25 +104,25 @@ impl<'p, 'a> Parser<'p, 'a> {
         if line.skip(b"always") {
             return Ok(Cond::Always);
         }
-        Ok(comparison(line, self.known)?)
+        self.comparison(line)
+            .ok_or(ConditionFault::Word(WordFault::Form(line.number)))
     }
-}
 
-/// A name, `=` or `<`, then a name or a number.
-fn comparison(line: &mut Line<'_>, known: &[Variable<'_>]) -> Result<Cond, WordFault>
-    ensures says { Parses tree (comparison (names_of known.now) (left line.old)) line.old.number result (left line.new) }
-    ensures same { line.new.number ≡ line.old.number }
-{
-    let fault = WordFault::Form(line.number);
-    let name = line.next_token().ok_or(fault)?;
-    let sign = line.next_token().ok_or(fault)?;
-    let other = line.next_token().ok_or(fault)?;
-    if !is_name(name.text) {
-        return Err(fault);
+    /// A name, `=` or `<`, then a name or a number.
+    fn comparison(&self, line: &mut Line<'_>) -> Option<Cond>
+        ensures says { MatchOption result (comparison (names_of self.now.known.now) (left line.old) ≡ None) (λ c. comparison (names_of self.now.known.now) (left line.old) ≡ Some (tree c, left line.new)) }
+        ensures same { line.new.number ≡ line.old.number }
+    {
+        let name = line.next_token()?;
+        let sign = line.next_token()?;
+        let other = line.next_token()?;
+        if !is_name(name.text) {
+            return None;
+        }
+        let relation = relation_of(sign.text)?;
+        let operand = operand_of(self.known, other.text)?;
+        Some(Cond::Compare(place_of(self.known, name.text), relation, operand))
     }
-    let relation = relation_of(sign.text).ok_or(fault)?;
-    let operand = operand_of(known, other.text).ok_or(fault)?;
-    Ok(Cond::Compare(place_of(known, name.text), relation, operand))
 }
 
 /// What a sign of a comparison says.

@@ -24,7 +24,7 @@ pub fn place_of(known: &[Variable<'_>], name: &[u8]) -> usize
 pub fn is_declared(known: &[Variable<'_>], name: &[u8]) -> bool
     ensures { result ≡ declared (names_of known.now) name.now }
 {
-    place_of(known, name) < known.len()
+    known.iter().any(|d| d.name == name)
 }
 
 /// How many variables there are.

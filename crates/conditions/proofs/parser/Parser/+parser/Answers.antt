@@ -3,7 +3,7 @@ use Rattle.std.proofs.lemmas.Result.{err_from_is_err_and}
 use Rattle.conditions.specs.Conditions.{both, either, not, tree}
 use Rattle.conditions.specs.Grammar.{or_level, and_level, not_level}
 use Rattle.conditions.specs.Variables.{names_of}
-use Rattle.conditions.proofs.LevelFacts.{joined_left_fails, joined_left, joined_right_fails, joined_right, not_fails, not_reads, not_below, inner_fails, inner_open, inner_closed, base_always, base_compares, base_compare_fails}
+use Rattle.conditions.proofs.LevelFacts.{joined_left_fails, joined_left, joined_right_fails, joined_right, not_fails, not_reads, not_below, inner_fails, inner_open, inner_closed, base_always, base_compares}
 use Rattle.conditions.proofs.parser.Parser.+parser.Goals as goal
 
 pub conjunction-returns-in_err-first : goal.conjunction-returns-in_err-first
@@ -78,17 +78,9 @@ primary-returns-then-skip-2 t c =
     let second = c.if-skip-2.ensures in
     base_always _ _ _ (sym none.answer) _ refl (sym (rw none.rest at second.answer)) (record { rest = rw none.rest at second.rest; same = second.same ∙ none.same })
 
-pub primary-returns-in_err-comparison : goal.primary-returns-in_err-comparison
-primary-returns-in_err-comparison t c =
-    let p = err_from_is_err_and c.from_residual-in_err-comparison.result c.from_residual-in_err-comparison.ensures.1 in
-    let none = c.if-skip.ensures in
-    let second = c.if-skip-2.ensures in
-    let says = rw (second.rest, none.rest, second.same, none.same) at c.in_err-comparison.ensures.says in
-    rw (p.1, p.2) (base_compare_fails _ _ _ (sym none.answer) (sym (rw none.rest at second.answer)) (c.comparison.ensures.same ∙ second.same ∙ none.same) _ says)
-
 pub primary-returns : goal.primary-returns
 primary-returns t c =
     let none = c.if-skip.ensures in
     let second = c.if-skip-2.ensures in
-    let says = rw (second.rest, none.rest) at c.in_ok-comparison.ensures.says in
-    base_compares _ _ _ (sym none.answer) (sym (rw none.rest at second.answer)) (c.comparison.ensures.same ∙ second.same ∙ none.same) _ says
+    let same = c.comparison.ensures.same ∙ second.same ∙ none.same in
+    rw c.ok_or.ensures.value (base_compares _ _ _ (sym none.answer) (sym (rw none.rest at second.answer)) same c.comparison.result _ same (rw (second.rest, none.rest) at c.comparison.ensures.says))
