@@ -31,7 +31,7 @@ pub spelled : (w : List ℕ) (i : ℕ) (v : List ℕ) → Spells w i v → drop 
 spelled w i [] h = grind (arith, common_steps, h)
 spelled w i (b ∷ v) h = at_drop_more (λ l. l) w i 0 h.0 ∙ (λ j. h.1 j ∷ spelled w (i + 1) v h.2 j)
 
--- a digit behind those that wrote n
+-- the fold that the code runs is `decimal`
 pub decimal_is : (n : ℕ) (bs : List ℕ) → fold (λ m b. m * 10 + (b - 48)) n bs ≡ decimal n bs
 decimal_is n [] = refl
 decimal_is n (b ∷ bs) = decimal_is (n * 10 + (b - 48)) bs
