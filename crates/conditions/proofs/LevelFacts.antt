@@ -1,16 +1,16 @@
 -- The exits of the functions that read conditions, level by level.
 use Rattle.std.proofs.Common.{◌≡◌, ℕ, zero, suc, ◌<◌, ◌≤◌, true, false, List, [], ◌∷◌, length, Some, None, Ok, Err, codes, Option, Result, sym, refl, ap, ◌∙◌, subst, subst₂, arith}
+use Rattle.std.specs.Option.{MatchOption, ok_or}
 use Rattle.std.proofs.lemmas.Bool.{cond-false, cond_both}
 use Rattle.words.specs.Lines.{left}
 use Rattle.words.specs.Words.{Word, opens_with, after_first, is_name}
 use Rattle.words.specs.declared.line.Line.{Line}
-use Rattle.words.specs.declared.fault.WordFault.{WordFault}
 use Rattle.words.specs.declared.fault.WordFault.TheVariants.{Form}
 use Rattle.words.proofs.WordFacts.{after_shorter, opens_some}
-use Rattle.conditions.specs.Conditions.{Tree, always, not, tree}
-use Rattle.conditions.specs.Answers.{Unformed, Parses, ParsedAs, Shorter, Reads}
+use Rattle.conditions.specs.Conditions.{Tree, both, either, tree}
+use Rattle.conditions.specs.Answers.{Unformed, ParsedAs, Shorter, Reads}
 use Rattle.conditions.specs.Parser.{Parsed, joined, comparison, compared, parse, rank, depth}
-use Rattle.conditions.specs.Grammar.{Level, or_level, not_level, base_level, relation, operand}
+use Rattle.conditions.specs.Grammar.{Level, or_level, and_level, not_level, base_level, relation, operand}
 use Rattle.conditions.specs.declared.condition.Relation.{Relation}
 use Rattle.conditions.specs.declared.condition.Operand.{Operand}
 use Rattle.conditions.specs.declared.fault.ConditionFault.{ConditionFault}
@@ -51,13 +51,23 @@ module _ (w : Word) (make : Tree → Tree → Tree) (left right : List Word → 
     one_right : (d : Tree) (last : List Word) → opens_with w rest ≡ true → right (after_first rest) ≡ Some (d, last) → joined w make left right ws ≡ Some (make c d, last)
     one_right d last s e = rw (is, s, e)
 
--- a level whose conditions are joined by a word
-module _ (names : List Word) (w : Word) (make : Tree → Tree → Tree) (l below : Level) (ranks : rank l ≡ suc (rank below)) (opens : (n : ℕ) (ws : List Word) → parse names (suc n) l ws ≡ joined w make (parse names n below) (parse names n l) ws) where
+-- a level whose conditions are those of the level below, joined by a word
+pub record Joins (names : List Word) (w : Word) (make : Tree → Tree → Tree) (l below : Level) : Type 0 where
+  pub ranks : rank l ≡ suc (rank below)
+  pub opens : (n : ℕ) (ws : List Word) → parse names (suc n) l ws ≡ joined w make (parse names n below) (parse names n l) ws
+
+pub ands : (names : List Word) → Joins names (codes "and") both and_level not_level
+ands names = record { ranks = refl; opens = λ n ws. refl }
+
+pub ors : (names : List Word) → Joins names (codes "or") either or_level and_level
+ors names = record { ranks = refl; opens = λ n ws. refl }
+
+module _ {names : List Word} {w : Word} {make : Tree → Tree → Tree} {l below : Level} (j : Joins names w make l below) where
   pub joined_left_fails : (a b : Line) (e : ConditionFault) → Reads names below a (Err e) b → Reads names l a (Err e) b
   joined_left_fails a b e h = record {
     same = h.same;
     shorter = tt;
-    says = deep _ (λ n. ParsedAs (parse names n l (left a)) a.number (Err e) (left b)) (omega (arith, ranks)) (λ n le. fails _ _ _ _ e (left b) (left b) refl (λ none. opens n (left a) ∙ none_left w make (parse names n below) (parse names n l) (left a) none) (h.says n (omega (arith, ranks))));
+    says = deep _ (λ n. ParsedAs (parse names n l (left a)) a.number (Err e) (left b)) (omega (arith, j.ranks)) (λ n le. fails _ _ _ _ e (left b) (left b) refl (λ none. j.opens n (left a) ∙ none_left w make (parse names n below) (parse names n l) (left a) none) (h.says n (omega (arith, j.ranks))));
   }
 
   module _ (a b d : Line) (c : Cond) (h : Reads names below a (Ok c) b) where
@@ -65,25 +75,25 @@ module _ (names : List Word) (w : Word) (make : Tree → Tree → Tree) (l below
     joined_left s rest same = record {
       same = same ∙ h.same;
       shorter = omega (arith, h.shorter, ap length rest);
-      says = deep _ (λ n. ParsedAs (parse names n l (left a)) a.number (Ok c) (left d)) (omega (arith, ranks)) (λ n le. opens n (left a) ∙ one_left w make (parse names n below) (parse names n l) (left a) _ (left b) (h.says n (omega (arith, ranks))) s ∙ ap (λ ws. Some (tree c, ws)) (sym rest));
+      says = deep _ (λ n. ParsedAs (parse names n l (left a)) a.number (Ok c) (left d)) (omega (arith, j.ranks)) (λ n le. j.opens n (left a) ∙ one_left w make (parse names n below) (parse names n l) (left a) _ (left b) (h.says n (omega (arith, j.ranks))) s ∙ ap (λ ws. Some (tree c, ws)) (sym rest));
     }
 
     module _ (z : Line) (s : opens_with w (left b) ≡ true) (k : Skipped b d) where
       after : (r : Result Cond ConditionFault) (n : ℕ) → depth l (left a) ≤ suc n → Reads names l d r z → ParsedAs (parse names n l (after_first (left b))) d.number r (left z)
-      after r n le m = subst (λ ws. ParsedAs (parse names n l ws) d.number r (left z)) k.rest (m.says n (omega (arith, ranks, h.shorter, after_shorter (left b), ap length k.rest)))
+      after r n le m = subst (λ ws. ParsedAs (parse names n l ws) d.number r (left z)) k.rest (m.says n (omega (arith, j.ranks, h.shorter, after_shorter (left b), ap length k.rest)))
 
       pub joined_right_fails : (e : ConditionFault) → Reads names l d (Err e) z → Reads names l a (Err e) z
       joined_right_fails e m = record {
         same = m.same ∙ k.same ∙ h.same;
         shorter = tt;
-        says = deep _ (λ n. ParsedAs (parse names n l (left a)) a.number (Err e) (left z)) (omega (arith, ranks)) (λ n le. fails _ _ _ _ e (left z) (left z) (k.same ∙ h.same) (λ none. opens n (left a) ∙ none_right w make (parse names n below) (parse names n l) (left a) _ (left b) (h.says n (omega (arith, ranks))) s none) (after (Err e) n le m));
+        says = deep _ (λ n. ParsedAs (parse names n l (left a)) a.number (Err e) (left z)) (omega (arith, j.ranks)) (λ n le. fails _ _ _ _ e (left z) (left z) (k.same ∙ h.same) (λ none. j.opens n (left a) ∙ none_right w make (parse names n below) (parse names n l) (left a) _ (left b) (h.says n (omega (arith, j.ranks))) s none) (after (Err e) n le m));
       }
 
       pub joined_right : (x r : Cond) → Reads names l d (Ok x) z → tree r ≡ make (tree c) (tree x) → Reads names l a (Ok r) z
       joined_right x r m is = record {
         same = m.same ∙ k.same ∙ h.same;
         shorter = omega (arith, h.shorter, m.shorter, after_shorter (left b), ap length k.rest);
-        says = deep _ (λ n. ParsedAs (parse names n l (left a)) a.number (Ok r) (left z)) (omega (arith, ranks)) (λ n le. opens n (left a) ∙ one_right w make (parse names n below) (parse names n l) (left a) _ (left b) (h.says n (omega (arith, ranks))) _ (left z) s (after (Ok x) n le m) ∙ ap (λ t. Some (t, left z)) (sym is));
+        says = deep _ (λ n. ParsedAs (parse names n l (left a)) a.number (Ok r) (left z)) (omega (arith, j.ranks)) (λ n le. j.opens n (left a) ∙ one_right w make (parse names n below) (parse names n l) (left a) _ (left b) (h.says n (omega (arith, j.ranks))) _ (left z) s (after (Ok x) n le m) ∙ ap (λ t. Some (t, left z)) (sym is));
       }
 
 -- fewer than n words are left
@@ -117,13 +127,6 @@ module _ (names : List Word) (a b z : Line) where
       same = h.same ∙ k.same;
       shorter = tt;
       says = deep _ (λ n. ParsedAs (parse names n not_level (left a)) a.number (Err e) (left z)) (omega arith) (λ n le. fails _ _ _ _ e (left z) (left z) k.same (λ none. rw (s, none)) (after_not (Err e) n le h));
-    }
-
-    pub not_reads : (c r : Cond) → Reads names not_level b (Ok c) z → tree r ≡ not (tree c) → Reads names not_level a (Ok r) z
-    not_reads c r h is = record {
-      same = h.same ∙ k.same;
-      shorter = omega (arith, h.shorter, after_shorter (left a), ap length k.rest);
-      says = deep _ (λ n. ParsedAs (parse names n not_level (left a)) a.number (Ok r) (left z)) (omega arith) (λ n le. rw (s, after_not (Ok c) n le h, is));
     }
 
   pub not_below : (r : Result Cond ConditionFault) → opens_with (codes "not") (left a) ≡ false → left b ≡ left a → b.number ≡ a.number → Reads names base_level b r z → Reads names not_level a r z
@@ -161,27 +164,19 @@ module _ (names : List Word) (a b z : Line) where
       }
 
 module _ (names : List Word) (a z : Line) (s : opens_with (codes "(") (left a) ≡ false) where
-  pub base_always : (c : Cond) → tree c ≡ always → opens_with (codes "always") (left a) ≡ true → Skipped a z → Reads names base_level a (Ok c) z
-  base_always c is o m = record {
-    same = m.same;
-    shorter = omega (arith, opens_some _ (left a) o, ap length m.rest);
-    says = deep _ (λ n. ParsedAs (parse names n base_level (left a)) a.number (Ok c) (left z)) (omega arith) (λ n le. rw (s, o, is, m.rest));
-  }
-
   module _ (o : opens_with (codes "always") (left a) ≡ false) (same : z.number ≡ a.number) where
     plain : (n : ℕ) → parse names (suc n) base_level (left a) ≡ comparison names (left a)
     plain n = cond-false _ _ _ s ∙ cond-false _ _ _ o
 
-    pub base_compares : (c : Cond) → Parses tree (comparison names (left a)) a.number (Ok c) (left z) → Reads names base_level a (Ok c) z
-    base_compares c h = record {
+    -- what was compared, or else a fault of form on the line m
+    pub base_compares : (r : Option Cond) (m : ℕ) → m ≡ a.number → MatchOption r (comparison names (left a) ≡ None) (λ c. comparison names (left a) ≡ Some (tree c, left z)) → Reads names base_level a (ok_or r (fault.Word (Form m))) z
+    base_compares None m is h = record {
+      same = same;
+      shorter = tt;
+      says = deep _ (λ n. ParsedAs (parse names n base_level (left a)) a.number (Err (fault.Word (Form m))) (left z)) (omega arith) (λ n le. (plain n ∙ h, ap Form is));
+    }
+    base_compares (Some c) m is h = record {
       same = same;
       shorter = leaves_shorter (left a) (left z) c _ (comparison_leaves names (left a)) h;
       says = deep _ (λ n. ParsedAs (parse names n base_level (left a)) a.number (Ok c) (left z)) (omega arith) (λ n le. plain n ∙ h);
-    }
-
-    pub base_compare_fails : (e : WordFault) → Parses tree (comparison names (left a)) a.number (Err e) (left z) → Reads names base_level a (Err (fault.Word e)) z
-    base_compare_fails e h = record {
-      same = same;
-      shorter = tt;
-      says = deep _ (λ n. ParsedAs (parse names n base_level (left a)) a.number (Err (fault.Word e)) (left z)) (omega arith) (λ n le. subst (λ p. ParsedAs p a.number (Err (fault.Word e)) (left z)) (sym (plain n)) h);
     }

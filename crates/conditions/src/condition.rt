@@ -2,14 +2,15 @@
 ghost use Rattle.std.specs.Prelude.{◌≡◌, slice_index};
 ghost use Rattle.conditions.specs.Conditions.{tree, truth, value, known_operand, known_tree};
 
-#[derive(Clone, Copy)]
+/// How the two sides of a comparison stand to each other.
+#[derive(Clone, Copy, PartialEq, Eq, Debug)]
 pub enum Relation {
     Equal,
     Less,
 }
 
 /// The right side of a comparison. A variable is given by its place among the variables.
-#[derive(Clone, Copy)]
+#[derive(Clone, Copy, PartialEq, Eq, Debug)]
 pub enum Operand {
     Variable(usize),
     Number(u16),
@@ -29,7 +30,7 @@ pub enum Cond {
 fn value_at(values: &[u16], k: usize) -> u16
     ensures { result ≡ slice_index values.now k }
 {
-    if k < values.len() { values[k] } else { 0 }
+    values.get(k).copied().unwrap_or(0)
 }
 
 impl Operand {

@@ -1,7 +1,7 @@
 //! Conditions read from the words of a line, by functions that call each other: the words that are left fall.
-ghost use Rattle.std.specs.Prelude.{◌≡◌};
+ghost use Rattle.std.specs.Prelude.{◌≡◌, MatchOption};
 ghost use Rattle.words.specs.Lines.{left};
-ghost use Rattle.conditions.specs.Answers.{Formed, Parses, ParserExact, Reads, Takes};
+ghost use Rattle.conditions.specs.Answers.{Formed, ParserExact, Reads, Takes};
 ghost use Rattle.conditions.specs.Conditions.{tree};
 ghost use Rattle.conditions.specs.Grammar.{relation, operand, or_level, and_level, not_level, base_level};
 ghost use Rattle.conditions.specs.Parser.{alone, comparison, condition};
@@ -13,7 +13,7 @@ use crate::variable::{Variable, place_of};
 use std::alloc::Global;
 use words::fault::WordFault;
 use words::line::Line;
-use words::word::{is_name, number_of, same};
+use words::word::{is_name, number_of};
 
 /// The condition that the rest of a line is.
 pub fn whole_condition(
@@ -24,16 +24,14 @@ pub fn whole_condition(
     ensures takes { Takes (names_of known.now) (left line.old) line.old.number result }
     ensures formed { Formed tree (alone (condition (names_of known.now) (left line.old))) line.old.number result }
 {
-    let fault = WordFault::Form(line.number);
     let cond = disjunction(line, heap, known)?;
-    if line.next_token().is_some() {
-        return Err(ConditionFault::Word(fault));
+    match line.next_token() {
+        None => Ok(cond),
+        Some(word) => Err(ConditionFault::Word(WordFault::Form(word.line))),
     }
-    Ok(cond)
 }
 
 /// The condition that a line begins with: conditions joined by `or`.
-#[cycle(conjunction_disjunction_negation_primary)]
 pub fn disjunction(
     line: &mut Line<'_>,
     heap: Global,
@@ -41,118 +39,111 @@ pub fn disjunction(
 ) -> Result<Cond, ConditionFault>
     ensures { Reads (names_of known.now) or_level line.old result line.new }
 {
-    let first = conjunction(line, heap, known)?;
-    if !line.skip(b"or") {
-        return Ok(first);
-    }
-    let second = disjunction(line, heap, known)?;
-    Ok(Cond::Or(Box::new(heap, first)?, Box::new(heap, second)?))
+    Parser { heap, known }.disjunction(line)
 }
 
-/// Conditions joined by `and`.
-#[cycle(conjunction_disjunction_negation_primary)]
-fn conjunction(
-    line: &mut Line<'_>,
+/// What the reader of conditions stands on: the heap that the trees are put in, and the variables that they may name.
+#[derive(Clone, Copy)]
+struct Parser<'p, 'a> {
     heap: Global,
-    known: &[Variable<'_>],
-) -> Result<Cond, ConditionFault>
-    ensures { Reads (names_of known.now) and_level line.old result line.new }
-{
-    let first = negation(line, heap, known)?;
-    if !line.skip(b"and") {
-        return Ok(first);
-    }
-    let second = conjunction(line, heap, known)?;
-    Ok(Cond::And(Box::new(heap, first)?, Box::new(heap, second)?))
+    known: &'p [Variable<'a>],
 }
 
-/// A condition with any number of `not` in front.
-#[cycle(conjunction_disjunction_negation_primary)]
-fn negation(
-    line: &mut Line<'_>,
-    heap: Global,
-    known: &[Variable<'_>],
-) -> Result<Cond, ConditionFault>
-    ensures { Reads (names_of known.now) not_level line.old result line.new }
-{
-    if line.skip(b"not") {
-        let inner = negation(line, heap, known)?;
-        return Ok(Cond::Not(Box::new(heap, inner)?));
-    }
-    primary(line, heap, known)
-}
-
-/// A condition in brackets, `always` or a comparison.
-#[cycle(conjunction_disjunction_negation_primary)]
-fn primary(
-    line: &mut Line<'_>,
-    heap: Global,
-    known: &[Variable<'_>],
-) -> Result<Cond, ConditionFault>
-    ensures { Reads (names_of known.now) base_level line.old result line.new }
-{
-    if line.skip(b"(") {
-        let inner = disjunction(line, heap, known)?;
-        if !line.skip(b")") {
-            return Err(ConditionFault::Word(WordFault::Form(line.number)));
+impl<'p, 'a> Parser<'p, 'a> {
+    /// Conditions joined by `or`.
+    #[cycle(parser)]
+    fn disjunction(&self, line: &mut Line<'_>) -> Result<Cond, ConditionFault>
+        ensures { Reads (names_of self.now.known.now) or_level line.old result line.new }
+    {
+        let first = self.conjunction(line)?;
+        if !line.skip(b"or") {
+            return Ok(first);
         }
-        return Ok(inner);
+        let second = self.disjunction(line)?;
+        Ok(Cond::Or(Box::new(self.heap, first)?, Box::new(self.heap, second)?))
     }
-    if line.skip(b"always") {
-        return Ok(Cond::Always);
+
+    /// Conditions joined by `and`.
+    // Kept: one function for this and `disjunction` would take the level below, itself and the variant as closures, each with a contract that the words left fall.
+    #[cycle(parser)]
+    fn conjunction(&self, line: &mut Line<'_>) -> Result<Cond, ConditionFault>
+        ensures { Reads (names_of self.now.known.now) and_level line.old result line.new }
+    {
+        let first = self.negation(line)?;
+        if !line.skip(b"and") {
+            return Ok(first);
+        }
+        let second = self.conjunction(line)?;
+        Ok(Cond::And(Box::new(self.heap, first)?, Box::new(self.heap, second)?))
     }
-    Ok(comparison(line, known)?)
+
+    /// A condition with any number of `not` in front.
+    #[cycle(parser)]
+    fn negation(&self, line: &mut Line<'_>) -> Result<Cond, ConditionFault>
+        ensures { Reads (names_of self.now.known.now) not_level line.old result line.new }
+    {
+        if line.skip(b"not") {
+            let inner = self.negation(line)?;
+            return Ok(Cond::Not(Box::new(self.heap, inner)?));
+        }
+        self.primary(line)
+    }
+
+    /// A condition in brackets, `always` or a comparison.
+    #[cycle(parser)]
+    fn primary(&self, line: &mut Line<'_>) -> Result<Cond, ConditionFault>
+        ensures { Reads (names_of self.now.known.now) base_level line.old result line.new }
+    {
+        if line.skip(b"(") {
+            let inner = self.disjunction(line)?;
+            if !line.skip(b")") {
+                return Err(ConditionFault::Word(WordFault::Form(line.number)));
+            }
+            return Ok(inner);
+        }
+        if line.skip(b"always") {
+            return Ok(Cond::Always);
+        }
+        self.comparison(line)
+            .ok_or(ConditionFault::Word(WordFault::Form(line.number)))
+    }
+
+    /// A name, `=` or `<`, then a name or a number.
+    fn comparison(&self, line: &mut Line<'_>) -> Option<Cond>
+        ensures says { MatchOption result (comparison (names_of self.now.known.now) (left line.old) ≡ None) (λ c. comparison (names_of self.now.known.now) (left line.old) ≡ Some (tree c, left line.new)) }
+        ensures same { line.new.number ≡ line.old.number }
+    {
+        let name = line.next_token()?;
+        let sign = line.next_token()?;
+        let other = line.next_token()?;
+        if !is_name(name.text) {
+            return None;
+        }
+        let relation = relation_of(sign.text)?;
+        let operand = operand_of(self.known, other.text)?;
+        Some(Cond::Compare(place_of(self.known, name.text), relation, operand))
+    }
 }
 
-/// A name, `=` or `<`, then a name or a number.
-fn comparison(line: &mut Line<'_>, known: &[Variable<'_>]) -> Result<Cond, WordFault>
-    ensures says { Parses tree (comparison (names_of known.now) (left line.old)) line.old.number result (left line.new) }
-    ensures same { line.new.number ≡ line.old.number }
-{
-    let fault = WordFault::Form(line.number);
-    let Some(name) = line.next_token() else {
-        return Err(fault);
-    };
-    let Some(sign) = line.next_token() else {
-        return Err(fault);
-    };
-    let Some(other) = line.next_token() else {
-        return Err(fault);
-    };
-    if !is_name(name.text) {
-        return Err(fault);
-    }
-    let Some(relation) = relation_of(sign.text) else {
-        return Err(fault);
-    };
-    let Some(operand) = operand_of(known, other.text) else {
-        return Err(fault);
-    };
-    Ok(Cond::Compare(place_of(known, name.text), relation, operand))
-}
-
+/// What a sign of a comparison says.
 fn relation_of(word: &[u8]) -> Option<Relation>
     ensures { result ≡ relation word.now }
 {
-    if same(word, b"=") {
-        return Some(Relation::Equal);
+    match word {
+        b"=" => Some(Relation::Equal),
+        b"<" => Some(Relation::Less),
+        _ => None,
     }
-    if same(word, b"<") {
-        return Some(Relation::Less);
-    }
-    None
 }
 
+/// The right side that a word is: a name or a number.
 fn operand_of(known: &[Variable<'_>], word: &[u8]) -> Option<Operand>
     ensures { result ≡ operand (names_of known.now) word.now }
 {
     if is_name(word) {
         return Some(Operand::Variable(place_of(known, word)));
     }
-    match number_of(word) {
-        Some(n) => Some(Operand::Number(n)),
-        None => None,
-    }
+    number_of(word).map(Operand::Number)
 }
 
 /// The parser takes exactly the words that the grammar derives, at their meaning.

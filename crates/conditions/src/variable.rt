@@ -2,8 +2,6 @@
 ghost use Rattle.std.specs.Prelude.{◌≡◌, length};
 ghost use Rattle.conditions.specs.Variables.{declared, names_of, place, size_at, vars_of};
 
-use words::word::same;
-
 /// A variable: its name, which is a part of the text, the number of its values, and those that it may start with.
 #[derive(Drop)]
 pub struct Variable<'a> {
@@ -16,19 +14,17 @@ pub struct Variable<'a> {
 pub fn place_of(known: &[Variable<'_>], name: &[u8]) -> usize
     ensures { result ≡ place (names_of known.now) name.now }
 {
-    for (i, d) in known.iter().enumerate() {
-        if same(d.name, name) {
-            return i;
-        }
-    }
-    known.len()
+    known
+        .iter()
+        .position(|d| d.name == name)
+        .unwrap_or(known.len())
 }
 
 /// Whether a variable has this name.
 pub fn is_declared(known: &[Variable<'_>], name: &[u8]) -> bool
     ensures { result ≡ declared (names_of known.now) name.now }
 {
-    place_of(known, name) < known.len()
+    known.iter().any(|d| d.name == name)
 }
 
 /// How many variables there are.
@@ -42,5 +38,5 @@ pub fn count_of(known: &[Variable<'_>]) -> usize
 pub fn size_at(known: &[Variable<'_>], k: usize) -> u16
     ensures { result ≡ size_at (vars_of known.now) k }
 {
-    if k < known.len() { known[k].size } else { 0 }
+    known.get(k).map_or(0, |d| d.size)
 }

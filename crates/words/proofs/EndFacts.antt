@@ -1,12 +1,9 @@
 -- The end of a text.
-use Rattle.std.proofs.Common.{◌≡◌, ℕ, ◌+◌, Bool, true, false, List, [], ◌∷◌, sym, ap, ◌∙◌, arith}
+use Rattle.std.proofs.Common.{◌≡◌, ℕ, ◌+◌, Bool, true, false, List, [], ◌∷◌, arith}
 use Rattle.words.specs.Reading.{Read, got, refused, given, next_line, ending}
 use Rattle.words.specs.Texts.{is_line}
 use Rattle.words.specs.Words.{words}
 use Rattle.words.proofs.PieceFacts.{Full}
-
-pub ending_none : (n : ℕ) (ls : List (List ℕ)) → ls ≡ [] → ending n ls ≡ got tt n ls
-ending_none n ls e = ap (ending n) e ∙ ap (got tt n) (sym e)
 
 flip : {A B : Type 0} (b : Bool) (m item at : ℕ) (a : A) (n : ℕ) (ls : List (List ℕ)) (x : Read B) → given b 3 m (got a n ls) ≡ refused item at → given b 3 m x ≡ refused item at
 flip true m item at a n ls x e = let z : ◌≡◌ {A = ℕ} 0 1 = cc in absurd (omega arith)

@@ -1,6 +1,11 @@
 -- Where a list of bytes is cut.
-use Rattle.std.proofs.Common.{◌≡◌, ℕ, zero, suc, ◌<◌, ◌≤◌, eqb, List, [], ◌∷◌, length, get_or, take, drop, sym, ap, ◌∙◌, add-one, arith, drop-drop}
-use Rattle.std.proofs.lemmas.Bool.{cond-true, cond-false, cond_both, eq-eqb, ne_eqb}
+use Rattle.std.proofs.Common.{◌≡◌, ℕ, zero, suc, ◌<◌, ◌≤◌, eqb, List, [], ◌∷◌, length, get_or, take, drop, sym, ap, ◌∙◌, ◌+◌, ◌-◌, Some, None, true-eqb, add-one, length-drop, arith}
+use Rattle.std.specs.List.{position, position_or_len}
+use Rattle.std.proofs.lemmas.List.{take_all, take_rest, nil_from_length}
+use Rattle.std.proofs.lemmas.List.Quantifiers.{position-Some}
+use Rattle.std.proofs.lemmas.List.Sums.{fails_before_first}
+use Rattle.std.proofs.lemmas.Bool.Decides.{nat_tests}
+use Rattle.std.proofs.lemmas.Bool.{false≢true, cond-true, cond-false, cond_both, eq-eqb, ne_eqb}
 use Rattle.words.specs.Pieces.{pieces, glued}
 
 -- the first byte e of s, or the end of s, stands at n
@@ -25,10 +30,19 @@ pieces_cut e (suc n) (b ∷ d ∷ bs) h =
     } in
     cond-false _ _ _ (ne_eqb b e (h.before 0 (omega arith))) ∙ ap (glued b) (pieces_cut e n (d ∷ bs) below)
 
-pub cut_first : (e n : ℕ) (s piece back rest : List ℕ) → Ends e n s → piece ≡ take n s → back ≡ drop n s → rest ≡ drop 1 back → pieces e s ≡ piece ∷ pieces e rest
-cut_first e n s piece back rest h p b r =
-    let at : rest ≡ drop (suc n) s = r ∙ ap (drop 1) b ∙ drop-drop 1 n s ∙ ap (λ k. drop k s) (add-one n) in
-    pieces_cut e n s h ∙ (λ i. sym p i ∷ pieces e (sym at i))
+-- where `position` finds the byte e
+pub cut_found : (e n : ℕ) (s : List ℕ) → position (λ b. eqb b e) s ≡ Some n → pieces e s ≡ take n s ∷ pieces e (take (length s - (n + 1)) (drop (n + 1) s))
+cut_found e n s h =
+    let p = position-Some (λ b. eqb b e) s n 0 h in
+    let ends : Ends e n s = record { some = omega arith; within = omega arith; before = λ k lt is. false≢true (sym (p.2 k lt) ∙ eq-eqb _ _ is); found = λ lt. true-eqb _ _ (sym p.1) } in
+    pieces_cut e n s ends ∙ ap (λ r. take n s ∷ pieces e r) (sym (take_rest s (n + 1) ∙ ap (λ k. drop k s) (add-one n)))
+
+pub cut_last : (e : ℕ) (s : List ℕ) → 0 < length s → position (λ b. eqb b e) s ≡ None → pieces e s ≡ s ∷ []
+cut_last e s some h =
+    let first = position_or_len (λ b. eqb b e) s in
+    let last : length s ≤ first = grind (arith, nat_tests) in
+    let ends : Ends e (length s) s = record { some = some; within = omega arith; before = λ k lt is. false≢true (sym (fails_before_first (λ b. eqb b e) s k 0 (omega arith)) ∙ eq-eqb _ _ is); found = λ lt. absurd (omega arith) } in
+    pieces_cut e (length s) s ends ∙ (λ i. take_all (length s) s (omega arith) i ∷ pieces e (nil_from_length (drop (suc (length s)) s) (omega (arith, length-drop (suc (length s)) s)) i))
 
 -- has a first element
 abbrev pub Full : {A : Type 0} → List A → Type 0

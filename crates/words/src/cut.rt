@@ -1,20 +1,6 @@
 //! Bytes cut at a byte.
-ghost use Rattle.std.specs.Prelude.{◌≡◌, ℕ, ◌<◌, ◌≤◌, ◌∷◌, length, ◌≢◌, slice_index};
+ghost use Rattle.std.specs.Prelude.{◌≡◌, ◌<◌, [], ◌∷◌, length, MatchOption, IfSome};
 ghost use Rattle.words.specs.Pieces.{pieces};
-
-/// How many bytes stand before the first `end`.
-fn run_len(s: &[u8], end: u8) -> usize
-    ensures within { result ≤ length s.now }
-    ensures before { (k : ℕ) → k < result → slice_index s.now k ≢ end }
-    ensures found { result < length s.now → slice_index s.now result ≡ end }
-{
-    for (i, x) in s.iter().enumerate() {
-        if *x == end {
-            return i;
-        }
-    }
-    s.len()
-}
 
 /// The first piece of some bytes, and what stands behind the byte that ends it.
 #[derive(Clone, Copy)]
@@ -23,20 +9,20 @@ pub(crate) struct Cut<'a> {
     pub(crate) rest: &'a [u8],
 }
 
-/// The first piece of bytes that are not empty.
-pub(crate) fn first_piece<'a>(s: &'a [u8], end: u8) -> Cut<'a>
-    requires { 0 < length s.now }
-    ensures cuts { pieces end s.now ≡ result.piece.now ∷ pieces end result.rest.now }
-    ensures shorter { length result.rest.now < length s.now }
+/// The first piece of some bytes, up to the first `end`, or None where there are no bytes.
+pub(crate) fn first_piece(s: &[u8], end: u8) -> Option<Cut<'_>>
+    ensures cuts { MatchOption result (s.now ≡ []) (λ c. pieces end s.now ≡ c.piece.now ∷ pieces end c.rest.now) }
+    ensures shorter { IfSome result (λ c. length c.rest.now < length s.now) }
 {
-    let n = run_len(s, end);
-    let (piece, back) = s.split_at(n);
-    if back.is_empty() {
-        Cut { piece, rest: back }
-    } else {
-        Cut {
-            piece,
-            rest: &back[1..],
-        }
+    match s.iter().position(|b| *b == end) {
+        Some(n) => Some(Cut {
+            piece: &s[..n],
+            rest: &s[n + 1..],
+        }),
+        None if s.is_empty() => None,
+        None => Some(Cut {
+            piece: s,
+            rest: &[],
+        }),
     }
 }

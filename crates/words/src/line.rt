@@ -27,10 +27,7 @@ impl<'a> Line<'a> {
         ensures handed { Handed self.old result (left self.new) }
         ensures same { self.new.number ≡ self.old.number }
     {
-        if self.rest.is_empty() {
-            return None;
-        }
-        let first = first_piece(self.rest, b' ');
+        let first = first_piece(self.rest, b' ')?;
         self.rest = first.rest;
         Some(Token {
             text: first.piece,
@@ -44,31 +41,22 @@ impl<'a> Line<'a> {
         ensures rest { left self.new ≡ (if result then after_first (left self.old) else left self.old) }
         ensures same { self.new.number ≡ self.old.number }
     {
-        if self.rest.is_empty() {
-            return false;
+        match first_piece(self.rest, b' ') {
+            Some(first) if first.piece == word => {
+                self.rest = first.rest;
+                true
+            }
+            _ => false,
         }
-        let first = first_piece(self.rest, b' ');
-        if first.piece == word {
-            self.rest = first.rest;
-            return true;
-        }
-        false
     }
 
     /// The count behind an opening word, where the line is these two.
     pub fn headed(&mut self, word: &[u8]) -> Option<u16>
         ensures { result ≡ headed word.now (left self.old) }
     {
-        let Some(first) = self.next_token() else {
-            return None;
-        };
-        let Some(second) = self.next_token() else {
-            return None;
-        };
-        if self.next_token().is_some() {
-            return None;
-        }
-        if !same(first.text, word) {
+        let first = self.next_token()?;
+        let second = self.next_token()?;
+        if self.next_token().is_some() || !same(first.text, word) {
             return None;
         }
         number_of(second.text)

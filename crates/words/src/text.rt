@@ -16,39 +16,21 @@ pub const MOST_BYTES: usize = 8192;
 /// The longest line, in bytes, without the one that ends it.
 pub const MOST_LINE_BYTES: usize = 120;
 
-/// Whether a byte may stand in a text: it ends a line, or is printable.
-fn is_plain(b: u8) -> bool
-    ensures { result ≡ plain b }
-{
-    b == b'\n' || 32 <= b && b <= 126
-}
-
+/// Whether each byte may stand in a text: it ends a line, or is printable.
 fn all_plain(text: &[u8]) -> bool
     ensures { result ≡ each plain text.now }
 {
-    for b in text {
-        if !is_plain(*b) {
-            return false;
-        }
-    }
-    true
+    text.iter().all(|b| matches!(b, b'\n' | b' '..=b'~'))
 }
 
 /// Whether no space stands first, last or behind another, and there is a word.
 fn is_spaced(line: &[u8]) -> bool
     ensures { result ≡ spaced true line.now }
 {
-    let mut after = true;
-    for b in line {
-        let space = *b == b' ';
-        if space && after {
-            return false;
-        }
-        after = space;
-    }
-    !after
+    line.split(|b| *b == b' ').all(|word| !word.is_empty())
 }
 
+/// Whether bytes are a line: at most 120 of them, in words one space apart.
 fn is_line(line: &[u8]) -> bool
     ensures { result ≡ is_line line.now }
 {
@@ -59,11 +41,7 @@ fn is_line(line: &[u8]) -> bool
 pub fn check_text(text: &[u8]) -> Result<(), WordFault>
     ensures { Opens text.now result }
 {
-    if text.is_empty()
-        || text.len() > MOST_BYTES
-        || text[text.len() - 1] != b'\n'
-        || !all_plain(text)
-    {
+    if text.len() > MOST_BYTES || text.last() != Some(&b'\n') || !all_plain(text) {
         return Err(WordFault::Text);
     }
     Ok(())
@@ -86,10 +64,7 @@ impl<'a> TextReader<'a> {
         ensures tells { WordTells left (next_line self.old.line (lines_of self.old)) result self.new }
         ensures numbered { Numbered result self.new }
     {
-        if self.rest.is_empty() {
-            return Err(WordFault::Missing(self.line + 1));
-        }
-        let first = first_piece(self.rest, b'\n');
+        let first = first_piece(self.rest, b'\n').ok_or(WordFault::Missing(self.line + 1))?;
         self.rest = first.rest;
         self.line += 1;
         if !is_line(first.piece) {
@@ -106,11 +81,7 @@ impl<'a> TextReader<'a> {
         ensures { WordTells (λ n. n) (line_of (headed word.now) self.old.line (lines_of self.old)) result self.new }
     {
         let mut line = self.next_line()?;
-        let number = line.number;
-        match line.headed(word) {
-            Some(n) => Ok(n),
-            None => Err(WordFault::Form(number)),
-        }
+        line.headed(word).ok_or(WordFault::Form(self.line))
     }
 
     /// Sees that nothing follows.

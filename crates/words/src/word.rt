@@ -10,35 +10,18 @@ pub const MOST_LETTERS: usize = 8;
 pub const MOST_DIGITS: usize = 4;
 
 /// Whether two words are equal byte for byte.
+// Kept: two edits in must-fail turn this comparison and `headed`'s call of it.
 pub fn same(a: &[u8], b: &[u8]) -> bool
     ensures { result ≡ bytes_eq a.now b.now }
 {
     a == b
 }
 
-fn in_range(b: u8, low: u8, high: u8) -> bool
-    ensures { result ≡ within low high b }
-{
-    low <= b && b <= high
-}
-
-/// Whether each byte is in a range.
-fn all_in_range(word: &[u8], low: u8, high: u8) -> bool
-    ensures { result ≡ each (within low high) word.now }
-{
-    for b in word {
-        if !in_range(*b, low, high) {
-            return false;
-        }
-    }
-    true
-}
-
 /// Whether a word has a meaning of its own in conditions, so that it names no variable.
 fn is_reserved(word: &[u8]) -> bool
     ensures { result ≡ reserved word.now }
 {
-    same(word, b"always") || same(word, b"and") || same(word, b"or") || same(word, b"not")
+    matches!(word, b"always" | b"and" | b"or" | b"not")
 }
 
 /// Whether a word is a name: 1 to 8 letters from a to z, and not reserved.
@@ -47,7 +30,7 @@ pub fn is_name(word: &[u8]) -> bool
 {
     !word.is_empty()
         && word.len() <= MOST_LETTERS
-        && all_in_range(word, b'a', b'z')
+        && word.iter().all(u8::is_ascii_lowercase)
         && !is_reserved(word)
 }
 
@@ -57,18 +40,14 @@ fn decimal_value(word: &[u8]) -> u16
     requires digits { each (within 48 57) word.now ≡ true }
     ensures { result ≡ decimal 0 word.now }
 {
-    let mut n = 0u16;
-    for b in word {
-        n = n * 10 + u16::from(*b - b'0');
-    }
-    n
+    word.iter().fold(0, |n, b| n * 10 + u16::from(*b - b'0'))
 }
 
 /// The number that a word is: 1 to 4 digits, the first of several not 0.
 pub fn number_of(word: &[u8]) -> Option<u16>
     ensures { result ≡ number_of word.now }
 {
-    if word.is_empty() || word.len() > MOST_DIGITS || !all_in_range(word, b'0', b'9') {
+    if word.is_empty() || word.len() > MOST_DIGITS || !word.iter().all(u8::is_ascii_digit) {
         return None;
     }
     if word.len() > 1 && word[0] == b'0' {

@@ -1,6 +1,13 @@
-use Rattle.std.proofs.Common.{ltb, sym}
-use Rattle.conditions.proofs.VariableFacts.{length_names}
+use Rattle.std.proofs.Common.{◌∙◌, rules, tests}
+use Rattle.std.specs.Str.{bytes_eq}
+use Rattle.std.proofs.lemmas.Iterator.{YieldsList-from_slice}
+use Rattle.std.proofs.lemmas.Iterator.Search.{any_from_yields_List}
+use Rattle.conditions.specs.declared.variable.Variable.{Variable}
+use Rattle.conditions.proofs.VariableFacts.{declared_is}
 use Rattle.conditions.proofs.variable.is_declared.Goals as goal
 
 pub returns : goal.returns
-returns c = λ i. ltb (c.place_of.ensures i) (sym (length_names c.args.known.now) i)
+returns c =
+    let ds = c.args.known.now in
+    let w = c.args.name.now in
+    any_from_yields_List (λ (d : Variable). bytes_eq d.name.now w) _ _ c.any.result c.any.ensures.ran (YieldsList-from_slice ds cc) (λ x b q k. search (rules, tests)) ∙ declared_is ds w

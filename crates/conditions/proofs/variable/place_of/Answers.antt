@@ -1,14 +1,16 @@
-use Rattle.std.proofs.Common.{sym, arith}
-use Rattle.std.proofs.lemmas.List.{at_drop_all}
-use Rattle.conditions.specs.Variables.{place, names_of}
-use Rattle.conditions.proofs.VariableFacts.{place_here, place_more}
+use Rattle.std.proofs.Common.{◌≡◌, ◌∙◌, ap, length, rules, tests}
+use Rattle.std.specs.List.{position}
+use Rattle.std.specs.Option.{unwrap_or}
+use Rattle.std.specs.Str.{bytes_eq}
+use Rattle.std.proofs.lemmas.Iterator.{YieldsList-from_slice}
+use Rattle.std.proofs.lemmas.Iterator.Search.{position_from_yields_List}
+use Rattle.conditions.specs.declared.variable.Variable.{Variable}
+use Rattle.conditions.proofs.VariableFacts.{place_first}
 use Rattle.conditions.proofs.variable.place_of.Goals as goal
 
-pub returns-then-same : goal.returns-then-same
-returns-then-same c = omega (arith, place_here _ _ _ _ c.loop-i-test.true c.index-known-i.is (sym c.if-same.ensures), c.loop-i.invariant)
-
-pub loop-i-preserved : goal.loop-i-preserved
-loop-i-preserved c = omega (arith, place_more _ _ _ _ c.loop-i-test.true c.index-known-i.is (sym c.if-same.ensures), c.loop-i.invariant)
-
 pub returns : goal.returns
-returns c = omega (arith, at_drop_all (λ l. place (names_of l) c.args.name.now) _ _ c.loop-i-test.false, c.loop-i.invariant, c.loop-i.auto.i-end, c.loop-i-test.false)
+returns c =
+    let ds = c.args.known.now in
+    let w = c.args.name.now in
+    let first : c.position.result ≡ position (λ (d : Variable). bytes_eq d.name.now w) ds = position_from_yields_List (λ (d : Variable). bytes_eq d.name.now w) _ _ c.position.result c.position.ensures.ran (YieldsList-from_slice ds cc) (λ x b q k. search (rules, tests)) in
+    c.unwrap_or.ensures ∙ ap (λ o. unwrap_or o (length ds)) first ∙ place_first ds w

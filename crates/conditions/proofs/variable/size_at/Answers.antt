@@ -1,11 +1,6 @@
-use Rattle.std.proofs.Common.{sym, ap, ◌∙◌}
-use Rattle.conditions.specs.declared.variable.Variable.{Variable}
-use Rattle.conditions.proofs.VariableFacts.{size_at_is, size_at_past}
+use Rattle.std.proofs.Common.{rules}
+use Rattle.conditions.proofs.VariableFacts.{size_found}
 use Rattle.conditions.proofs.variable.size_at.Goals as goal
 
-pub returns-then-k-known : goal.returns-then-k-known
-returns-then-k-known c =
-    ap (λ (v : Variable). v.size) (sym c.index-known-k.is) ∙ sym (size_at_is c.args.known.now c.args.k _ c.if-k-known.true c.index-known-k.is)
-
-pub returns-else-k-known : goal.returns-else-k-known
-returns-else-k-known c = sym (size_at_past c.args.known.now c.args.k c.if-k-known.false)
+pub returns : goal.returns
+returns c = size_found _ _ _ _ c.get.result c.get.ensures.lookup c.map_or.ensures (λ x q. search rules)

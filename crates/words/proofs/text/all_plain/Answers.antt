@@ -1,15 +1,11 @@
-use Rattle.std.proofs.Common.{sym, ◌∙◌}
-use Rattle.std.proofs.lemmas.List.{at_drop_all}
+use Rattle.std.proofs.Common.{sym, ◌∙◌, rules, tests}
+use Rattle.std.proofs.lemmas.Iterator.{YieldsList-from_slice}
+use Rattle.std.proofs.lemmas.Iterator.Search.{all_from_yields_List}
 use Rattle.words.specs.Texts.{plain}
-use Rattle.words.specs.Words.{each}
-use Rattle.words.proofs.WordFacts.{each_stop, each_more}
+use Rattle.words.proofs.WordFacts.{each_is}
 use Rattle.words.proofs.text.all_plain.Goals as goal
 
-pub returns-then-not-is_plain : goal.returns-then-not-is_plain
-returns-then-not-is_plain c = sym (each_stop plain _ _ 0 c.loop-b-test.true (sym c.if-not-is_plain.ensures)) ∙ c.loop-b.invariant
-
-pub loop-b-preserved : goal.loop-b-preserved
-loop-b-preserved c = sym (each_more plain _ _ 0 c.loop-b-test.true (sym c.if-not-is_plain.ensures)) ∙ c.loop-b.invariant
-
 pub returns : goal.returns
-returns c = sym (at_drop_all (each plain) _ _ c.loop-b-test.false) ∙ c.loop-b.invariant
+returns c =
+    let xs = c.args.text.now in
+    all_from_yields_List plain _ _ _ c.all.ensures.ran (YieldsList-from_slice xs cc) (λ x b q k. search (rules, tests)) ∙ sym (each_is plain xs)

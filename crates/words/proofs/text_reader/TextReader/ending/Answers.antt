@@ -1,14 +1,9 @@
-use Rattle.std.proofs.Common.{ap, arith, true-eqb, false-eqb}
-use Rattle.std.proofs.lemmas.List.{nil_from_length}
+use Rattle.std.proofs.Common.{arith, false-eqb}
 use Rattle.std.proofs.lemmas.Result.{err_from_is_err_and}
-use Rattle.words.specs.Pieces.{pieces}
 use Rattle.words.specs.Lines.{lines_of}
 use Rattle.words.proofs.PieceFacts.{pieces_full}
-use Rattle.words.proofs.EndFacts.{ending_none, ending_bad}
+use Rattle.words.proofs.EndFacts.{ending_bad}
 use Rattle.words.proofs.text_reader.TextReader.ending.Goals as goal
-
-pub returns-then-is_empty : goal.returns-then-is_empty
-returns-then-is_empty c = ending_none _ _ (ap (pieces 10) (nil_from_length _ (true-eqb _ 0 c.if-is_empty.ensures)))
 
 pub returns-in_err-line : goal.returns-in_err-line
 returns-in_err-line c =

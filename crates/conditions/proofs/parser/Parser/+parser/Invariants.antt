@@ -1,7 +1,7 @@
 use Rattle.words.specs.Lines.{left}
 use Rattle.conditions.specs.Parser.{depth}
 use Rattle.conditions.specs.Grammar.{or_level, and_level, not_level, base_level}
-use Rattle.conditions.proofs.parser.+conjunction_disjunction_negation_primary.Given as goal
+use Rattle.conditions.proofs.parser.Parser.+parser.Given as goal
 
 abbrev pub decreases-conjunction : goal.decreases-conjunction
 decreases-conjunction l = depth and_level (left l.line.now)
