@@ -58,7 +58,7 @@ fn padded(given: &[u16]) -> [u16; MOST_VARIABLES]
 
 impl Sizes {
     /// The sizes, the first variable's first.
-    pub(crate) fn as_slice(&self) -> &[u16]
+    pub fn as_slice(&self) -> &[u16]
         ensures { result.now ≡ sizes_in self.now }
     {
         &self.each[..self.count]
