@@ -7,6 +7,7 @@ use crate::number::MOST_VARIABLES;
 
 /// The sizes of 1 to 12 variables, each 2 to 16, whose product is at most 4,096.
 #[derive(Clone, Copy)]
+// Kept: an array with its length beside it, here and in `Values`; the kit's `ArrayVec` is no `Copy` type, and its statements would have to be trusted.
 pub struct Sizes {
     pub(crate) each: [u16; MOST_VARIABLES],
     pub(crate) count: usize,
