@@ -31,16 +31,13 @@ impl ColumnedSource for RuleText {
     }
 
     fn holds(&self, atom: u16, s: u16) -> bool {
-        let Some(atom) = self.atoms.get(usize::from(atom)) else {
-            return false;
-        };
-        s < self.widths.states() && atom.holds(self.widths.values(s).as_slice())
+        self.atoms.get(usize::from(atom)).is_some_and(|atom| {
+            s < self.widths.states() && atom.holds(self.widths.values(s).as_slice())
+        })
     }
 
     fn reads(&self, atom: u16, v: u16) -> bool {
-        let Some(atom) = self.atoms.get(usize::from(atom)) else {
-            return false;
-        };
-        v < self.widths.count() && atom.reads(usize::from(v))
+        self.atoms.get(usize::from(atom)).is_some_and(|atom| v < self.widths.count()
+            && atom.reads(usize::from(v)))
     }
 }
