@@ -1,7 +1,7 @@
 -- A number taken apart value by value, and put together.
-use Rattle.std.proofs.Common.{◌≡◌, ℕ, ◌+◌, ◌*◌, ◌/◌, ◌%◌, ◌<◌, ◌≤◌, true, false, ◌&&◌, ltb, List, [], ◌∷◌, ◌++◌, length, get_or, take, drop, set, replicate, sym, refl, ap, ◌∙◌, subst, append_assoc, mul-le-mul_right, mul_assoc, add-mul, mul-le-mul_left, one-mul, zero-mul, mul-one, arith, length-set}
+use Rattle.std.proofs.Common.{◌≡◌, ℕ, ◌+◌, ◌*◌, ◌/◌, ◌%◌, ◌<◌, ◌≤◌, true, false, ◌&&◌, ltb, List, [], ◌∷◌, ◌++◌, length, get_or, take, drop, set, sym, ap, ◌∙◌, subst, append_assoc, mul-le-mul_right, mul_assoc, add-mul, mul-le-mul_left, one-mul, mul-one, arith, length-set}
 use native.Mathlib.Nat.{mul-div_cancel_left}
-use Rattle.std.proofs.lemmas.List.{at_drop_more, at_drop_all, drop_more, take_more_set, append-nil}
+use Rattle.std.proofs.lemmas.List.{at_drop_more, at_drop_all, drop_more, take_more_set}
 use Rattle.std.proofs.lemmas.Bool.{lt-ltb, le-ltb, and_left}
 use Rattle.columns.specs.Columns.{product, values, number, fit}
 
@@ -10,9 +10,6 @@ pub record Splitting (ds : List ℕ) (s : ℕ) (each : List ℕ) (i w rest : ℕ
   pub long : length each ≡ 12
   pub wide : w ≡ product (drop i ds)
   pub same : take i each ++ values (drop i ds) rest ≡ values ds s
-
-pub splitting_none : (ds : List ℕ) (s w : ℕ) → w ≡ product ds → Splitting ds s (replicate 12 0) 0 w s
-splitting_none ds s w e = record { long = refl; wide = e; same = refl }
 
 module _ (ds : List ℕ) (s : ℕ) (each : List ℕ) (i w rest : ℕ) (lt : i < length ds) (few : length ds ≤ 12) (some : 0 < get_or ds i 0) (m : Splitting ds s each i w rest) where
   pub next_wide : w / get_or ds i 0 ≡ product (drop (i + 1) ds)
@@ -29,17 +26,11 @@ module _ (ds : List ℕ) (s : ℕ) (each : List ℕ) (i w rest : ℕ) (lt : i < 
         same = ap (λ l. l ++ values (drop (i + 1) ds) (rest % v)) (take_more_set each i (rest / v) within) ∙ append_assoc (take i each) (rest / v ∷ []) (values (drop (i + 1) ds) (rest % v)) ∙ ap (λ k. take i each ++ rest / k ∷ values (drop (i + 1) ds) (rest % k)) next_wide ∙ sym (ap (λ l. take i each ++ l) (at_drop_more (λ l. values l rest) ds i 0 lt)) ∙ m.same;
       }
 
-pub splitting_all : (ds : List ℕ) (s : ℕ) (each : List ℕ) (i w rest : ℕ) → length ds ≤ i → Splitting ds s each i w rest → take i each ≡ values ds s
-splitting_all ds s each i w rest le m = sym (append-nil (take i each)) ∙ sym (ap (λ l. take i each ++ l) (at_drop_all (λ l. values l rest) ds i le)) ∙ m.same
-
 -- the first i values are put together to n
 pub record Adding (ds vs : List ℕ) (i n : ℕ) : Type 0 where
   pub room : (n + 1) * product (drop i ds) ≤ product ds
   pub same : n * product (drop i ds) + number (drop i ds) (drop i vs) ≡ number ds vs
   pub fits : fit (drop i ds) (drop i vs) ≡ fit ds vs
-
-pub adding_none : (ds vs : List ℕ) → Adding ds vs 0 0
-adding_none ds vs = record { room = omega (arith, one-mul (product ds)); same = omega (arith, zero-mul (product ds)); fits = refl }
 
 module _ (ds vs : List ℕ) (i n : ℕ) (in_ds : i < length ds) (in_vs : i < length vs) (m : Adding ds vs i n) where
   next_number : number (drop i ds) (drop i vs) ≡ get_or vs i 0 * product (drop (i + 1) ds) + number (drop (i + 1) ds) (drop (i + 1) vs)

@@ -2,3 +2,4 @@ pub mod Products
 pub mod SizeFacts
 pub mod DigitLoops
 pub mod OwnSizes
+pub mod Backwards

@@ -1,6 +1,5 @@
 -- What a `Sizes` knows of itself.
-use Rattle.std.proofs.Common.{◌≡◌, ℕ, ◌<◌, ◌≤◌, length, get_or, drop, sym, arith}
-use Rattle.std.proofs.lemmas.List.{get_or-take}
+use Rattle.std.proofs.Common.{◌≡◌, ℕ, ◌<◌, ◌≤◌, get_or, drop, arith}
 use Rattle.columns.specs.Columns.{product}
 use Rattle.columns.proofs.Digits.{Positive, product_positive, product_drop}
 use Rattle.numbering.specs.Numbers.{sizes_in}
@@ -27,11 +26,5 @@ module _ (x : Sizes) where
   own_wide i w e = omega (arith, e, own_most, product_drop i (sizes_in x) own_positive)
 
   module _ (i : ℕ) (lt : i < x.count) where
-    pub own_below : i < length (sizes_in x)
-    own_below = omega (arith, x.counted)
-
-    pub own_size : get_or x.each i 0 ≡ get_or (sizes_in x) i 0
-    own_size = sym (get_or-take x.count x.each i 0 lt)
-
     pub own_range : (2 ≤ get_or (sizes_in x) i 0) × (get_or (sizes_in x) i 0 ≤ 16)
-    own_range = ranged_at (sizes_in x) i ranged own_below
+    own_range = ranged_at (sizes_in x) i ranged (omega (arith, x.counted))

@@ -1,7 +1,6 @@
 -- What accepted sizes give.
-use Rattle.std.proofs.Common.{◌≡◌, ℕ, zero, suc, ◌+◌, ◌*◌, ◌<◌, ◌≤◌, true, false, ◌&&◌, leb, List, [], ◌∷◌, length, get_or, drop, sym, refl, ap, ◌∙◌, mul_assoc, mul-pos, one-mul, mul-one, arith}
-use Rattle.std.proofs.lemmas.List.{at_drop_more, at_drop_all}
-use Rattle.std.proofs.lemmas.Bool.{and_parts, and_left, and_right, leb-true, le-leb, lt-leb}
+use Rattle.std.proofs.Common.{◌≡◌, ℕ, zero, suc, ◌*◌, ◌<◌, ◌≤◌, true, ◌&&◌, leb, List, [], ◌∷◌, length, get_or, drop, mul_assoc, one-mul, mul-one, arith}
+use Rattle.std.proofs.lemmas.Bool.{and_parts, leb-true}
 use Rattle.columns.specs.Columns.{product}
 use Rattle.columns.proofs.Digits.{Positive}
 use Rattle.numbering.specs.Limits.{small_product, sound_sizes}
@@ -56,41 +55,3 @@ pub ranged_at : (ds : List ℕ) (i : ℕ) → Ranged ds → i < length ds → (2
 ranged_at [] i h lt = absurd (omega arith)
 ranged_at (d ∷ ds) zero h lt = (h.0, h.1)
 ranged_at (d ∷ ds) (suc i) h lt = ranged_at ds i h.2 (omega arith)
-
--- the first i sizes are multiplied
-pub record Multiplying (ds : List ℕ) (i p : ℕ) : Type 0 where
-  pub some : 1 ≤ p
-  pub most : p ≤ 4096
-  pub same : small_product p (drop i ds) ≡ small_product 1 ds
-  pub whole : p * product (drop i ds) ≡ product ds
-
-pub multiplying_none : (ds : List ℕ) → Multiplying ds 0 1
-multiplying_none ds = record { some = omega arith; most = omega arith; same = refl; whole = one-mul (product ds) }
-
-module _ (ds : List ℕ) (i p : ℕ) (lt : i < length ds) (m : Multiplying ds i p) where
-  next : small_product p (drop i ds) ≡ small_product p (get_or ds i 0 ∷ drop (i + 1) ds)
-  next = at_drop_more (small_product p) ds i 0 lt
-
-  pub too_small : get_or ds i 0 < 2 → small_product 1 ds ≡ false
-  too_small h = sym m.same ∙ next ∙ and_left _ _ (lt-leb 2 (get_or ds i 0) h)
-
-  pub too_large : 16 < get_or ds i 0 → small_product 1 ds ≡ false
-  too_large h = sym m.same ∙ next ∙ and_right (leb 2 (get_or ds i 0)) _ (and_left _ _ (lt-leb (get_or ds i 0) 16 h))
-
-  pub too_many : 4096 < p * get_or ds i 0 → small_product 1 ds ≡ false
-  too_many h =
-      sym m.same ∙ next ∙ and_right (leb 2 (get_or ds i 0)) _ (and_right (leb (get_or ds i 0) 16) _ (and_left _ _ (lt-leb (p * get_or ds i 0) 4096 h)))
-
-  pub multiplying_more : 2 ≤ get_or ds i 0 → get_or ds i 0 ≤ 16 → p * get_or ds i 0 ≤ 4096 → Multiplying ds (i + 1) (p * get_or ds i 0)
-  multiplying_more low high few = record {
-    some = omega (arith, mul-pos {m = p} {n = get_or ds i 0} m.some (omega arith));
-    most = few;
-    same = sym (next ∙ λ j. le-leb 2 (get_or ds i 0) low j && (le-leb (get_or ds i 0) 16 high j && (le-leb (p * get_or ds i 0) 4096 few j && small_product (p * get_or ds i 0) (drop (i + 1) ds)))) ∙ m.same;
-    whole = mul_assoc p (get_or ds i 0) (product (drop (i + 1) ds)) ∙ sym (ap (λ k. p * k) (at_drop_more product ds i 0 lt)) ∙ m.whole;
-  }
-
-pub multiplying_all : (ds : List ℕ) (i p : ℕ) → length ds ≤ i → Multiplying ds i p → (small_product 1 ds ≡ true) × (p ≡ product ds)
-multiplying_all ds i p le m = (
-  sym m.same ∙ at_drop_all (small_product p) ds i le,
-  sym (mul-one p) ∙ sym (ap (λ k. p * k) (at_drop_all product ds i le)) ∙ m.whole,
-)

@@ -5,15 +5,13 @@ ghost use Rattle.numbering.specs.Limits.{sound_sizes, Multiplied};
 ghost use Rattle.numbering.specs.Numbers.{sizes_in, values_in};
 
 use crate::sizes::{Sizes, Values};
+use rules::list::MOST_STATES;
 
 /// The most variables that rules may have.
 pub const MOST_VARIABLES: usize = 12;
 
 /// The most values that a variable may have.
 pub const MOST_VALUES: u16 = 16;
-
-/// The most states that rules may have.
-pub const MOST_STATES: u32 = 4096;
 
 impl Values {
     /// The values, the first variable's first.
@@ -27,7 +25,7 @@ impl Values {
     pub fn value(&self, k: usize) -> u16
         ensures { result ≡ slice_index (values_in self.now) k }
     {
-        if k < self.count { self.each[k] } else { 0 }
+        self.as_slice().get(k).copied().unwrap_or(0)
     }
 }
 
@@ -35,15 +33,12 @@ impl Values {
 fn multiplied(sizes: &[u16]) -> Option<u16>
     ensures { Multiplied sizes.now result }
 {
-    let mut p: u32 = 1;
+    let mut p = 1;
     for d in sizes {
-        if *d < 2 {
+        if !(2..=MOST_VALUES).contains(d) {
             return None;
         }
-        if *d > MOST_VALUES {
-            return None;
-        }
-        p *= u32::from(*d);
+        p *= usize::from(*d);
         if p > MOST_STATES {
             return None;
         }
@@ -52,30 +47,34 @@ fn multiplied(sizes: &[u16]) -> Option<u16>
 }
 
 /// Numbers in an array of fixed length, 0 behind them.
-fn padded(given: &[u16]) -> [u16; 12]
+fn padded(given: &[u16]) -> [u16; MOST_VARIABLES]
     requires { length given.now ≤ 12 }
     ensures { take (length given.now) result ≡ given.now }
 {
-    let mut each = [0; 12];
-    for (i, x) in given.iter().enumerate() {
-        each[i] = *x;
-    }
+    let mut each = [0; MOST_VARIABLES];
+    each[..given.len()].copy_from_slice(given);
     each
 }
 
 impl Sizes {
+    /// The sizes, the first variable's first.
+    pub fn as_slice(&self) -> &[u16]
+        ensures { result.now ≡ sizes_in self.now }
+    {
+        &self.each[..self.count]
+    }
+
     /// These sizes, if they are accepted.
     pub fn new(given: &[u16]) -> Option<Sizes>
         ensures { MatchOption result (sound_sizes given.now ≡ false) (λ x. sizes_in x ≡ given.now) }
     {
         let count = given.len();
-        if count < 1 || count > MOST_VARIABLES {
+        if !(1..=MOST_VARIABLES).contains(&count) {
             return None;
         }
         let states = multiplied(given)?;
-        let each = padded(given);
         Some(Sizes {
-            each,
+            each: padded(given),
             count,
             states,
         })
@@ -92,7 +91,7 @@ impl Sizes {
     pub fn size(&self, v: usize) -> u16
         ensures { result ≡ slice_index (sizes_in self.now) v }
     {
-        if v < self.count { self.each[v] } else { 0 }
+        self.as_slice().get(v).copied().unwrap_or(0)
     }
 
     /// How many states there are.
@@ -106,11 +105,11 @@ impl Sizes {
     pub fn values(&self, s: u16) -> Values
         ensures { values_in result ≡ values (sizes_in self.now) s }
     {
-        let mut each = [0; 12];
+        let mut each = [0; MOST_VARIABLES];
         let mut w = self.states;
         let mut rest = s;
-        for i in 0..self.count {
-            w /= self.each[i];
+        for (i, size) in self.as_slice().iter().enumerate() {
+            w /= *size;
             each[i] = rest / w;
             rest %= w;
         }
@@ -125,16 +124,16 @@ impl Sizes {
         ensures tells { result ≡ (if fit (sizes_in self.now) given.now then Some (number (sizes_in self.now) given.now) else None) }
         ensures back { IfSome result (λ n. values (sizes_in self.now) n ≡ given.now) }
     {
-        if given.len() != self.count {
+        let sizes = self.as_slice();
+        if given.len() != sizes.len() {
             return None;
         }
-        let mut n: u16 = 0;
-        for i in 0..self.count {
-            let size = self.each[i];
-            if given[i] >= size {
+        let mut n = 0;
+        for (value, size) in given.iter().zip(sizes) {
+            if value >= size {
                 return None;
             }
-            n = n * size + given[i];
+            n = n * *size + *value;
         }
         Some(n)
     }

@@ -3,10 +3,13 @@ ghost use Rattle.std.specs.Prelude.{◌≡◌, ◌≤◌, true, length, take};
 ghost use Rattle.columns.specs.Columns.{product};
 ghost use Rattle.numbering.specs.Limits.{sound_sizes};
 
+use crate::number::MOST_VARIABLES;
+
 /// The sizes of 1 to 12 variables, each 2 to 16, whose product is at most 4,096.
 #[derive(Clone, Copy)]
+// Kept: an array with its length beside it, here and in `Values`; the kit's `ArrayVec` is no `Copy` type, and its statements would have to be trusted.
 pub struct Sizes {
-    pub(crate) each: [u16; 12],
+    pub(crate) each: [u16; MOST_VARIABLES],
     pub(crate) count: usize,
     pub(crate) states: u16,
     ghost counted: { length (take count each) ≡ count },
@@ -17,7 +20,7 @@ pub struct Sizes {
 /// The values of a state, one a variable.
 #[derive(Clone, Copy)]
 pub struct Values {
-    pub(crate) each: [u16; 12],
+    pub(crate) each: [u16; MOST_VARIABLES],
     pub(crate) count: usize,
     ghost counted: { count ≤ 12 },
 }

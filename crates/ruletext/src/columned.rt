@@ -14,18 +14,16 @@ impl ColumnedSource for RuleText {
     }
 
     fn width(&self, v: u16) -> Option<u16> {
-        if v < self.widths.count() {
-            Some(self.widths.size(v as usize))
-        } else {
-            None
-        }
+        self.widths.as_slice().get(usize::from(v)).copied()
     }
 
+    #[tactic(auto, using(columns::proofs::Digits::length_values))]
     fn value(&self, s: u16, v: u16) -> Option<u16> {
-        if s >= self.widths.states() || v >= self.widths.count() {
+        if s >= self.widths.states() {
             return None;
         }
-        Some(self.widths.values(s).value(v as usize))
+        let values = self.widths.values(s);
+        values.as_slice().get(usize::from(v)).copied()
     }
 
     fn atoms(&self) -> u16 {
@@ -33,16 +31,13 @@ impl ColumnedSource for RuleText {
     }
 
     fn holds(&self, atom: u16, s: u16) -> bool {
-        let a = atom as usize;
-        if s >= self.widths.states() || a >= self.atoms.len() {
-            return false;
-        }
-        let values = self.widths.values(s);
-        self.atoms[a].holds(values.as_slice())
+        self.atoms.get(usize::from(atom)).is_some_and(|atom| {
+            s < self.widths.states() && atom.holds(self.widths.values(s).as_slice())
+        })
     }
 
     fn reads(&self, atom: u16, v: u16) -> bool {
-        let a = atom as usize;
-        a < self.atoms.len() && v < self.widths.count() && self.atoms[a].reads(v as usize)
+        self.atoms.get(usize::from(atom)).is_some_and(|atom| v < self.widths.count()
+            && atom.reads(usize::from(v)))
     }
 }

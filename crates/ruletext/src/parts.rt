@@ -13,12 +13,8 @@ impl RuleText {
     pub fn name(&self, v: u16) -> Option<&[u8]>
         ensures { Named (rule_set self.now) v result }
     {
-        let v = v as usize;
-        if v < self.variables.len() {
-            Some(self.variables[v].name.as_slice())
-        } else {
-            None
-        }
+        let variable = self.variables.get(usize::from(v))?;
+        Some(variable.name.as_slice())
     }
 
     /// The values of the variables in the state `s`.

@@ -21,12 +21,10 @@ use steps::atom::all_atoms;
 fn owned(heap: Global, variable: &Variable<'_>) -> Result<TextVariable, AllocError>
     ensures { IfOk result (λ x. variable_of x ≡ var_of variable.now) }
 {
-    let name = variable.name.to_vec(heap)?;
-    let starts = variable.starts.to_vec(heap)?;
     Ok(TextVariable {
-        name,
+        name: variable.name.to_vec(heap)?,
         size: variable.size,
-        starts,
+        starts: variable.starts.to_vec(heap)?,
     })
 }
 
@@ -34,10 +32,10 @@ fn owned(heap: Global, variable: &Variable<'_>) -> Result<TextVariable, AllocErr
 fn all_owned(heap: Global, variables: &[Variable<'_>]) -> Result<Vec<TextVariable>, AllocError>
     ensures { IfOk result (λ out. map variable_of out.items ≡ map var_of variables.now) }
 {
+    // Kept: tried with `try_collect`, whose clause doesn't say which variable each item came from, as an item may be an error.
     let mut out = Vec::new(heap);
     for variable in variables {
-        let own = owned(heap, variable)?;
-        out.push(own)?;
+        out.push(owned(heap, variable)?)?;
     }
     Ok(out)
 }
@@ -46,11 +44,7 @@ fn all_owned(heap: Global, variables: &[Variable<'_>]) -> Result<Vec<TextVariabl
 fn sizes_of(heap: Global, variables: &[TextVariable]) -> Result<Vec<u16>, AllocError>
     ensures { IfOk result (λ out. out.items ≡ map size_of (map variable_of variables.now)) }
 {
-    let mut out = Vec::new(heap);
-    for variable in variables {
-        out.push(variable.size)?;
-    }
-    Ok(out)
+    variables.iter().map(|variable| variable.size).collect(heap)
 }
 
 impl RuleText {

@@ -1,4 +1,1 @@
-pub mod Marks
-pub mod Lines
 pub mod Offering
-pub mod Gathers

@@ -29,11 +29,7 @@ impl Atom {
     pub fn reads(self, v: usize) -> bool
         ensures { result ≡ atom_reads self v }
     {
-        let right = match self.operand {
-            Operand::Variable(k) => k == v,
-            Operand::Number(_) => false,
-        };
-        self.variable == v || right
+        self.variable == v || matches!(self.operand, Operand::Variable(k) if k == v)
     }
 }
 
@@ -49,25 +45,11 @@ fn condition_atoms(c: &Cond, out: &mut Vec<Atom>) -> Result<(), AllocFailed<Atom
             operand: *operand,
         }),
         Cond::Not(a) => condition_atoms(a, out),
-        Cond::And(a, b) => {
-            condition_atoms(a, out)?;
-            condition_atoms(b, out)
-        }
-        Cond::Or(a, b) => {
+        Cond::And(a, b) | Cond::Or(a, b) => {
             condition_atoms(a, out)?;
             condition_atoms(b, out)
         }
     }
-}
-
-/// Puts the comparisons of a block behind those that `out` holds.
-fn lines_atoms(block: &[Case], out: &mut Vec<Atom>) -> Result<(), AllocFailed<Atom>>
-    ensures { OnOk result (out.new.items ≡ out.old.items ++ block_atoms (map rule_of block.now)) }
-{
-    for case in block {
-        condition_atoms(&case.cond, out)?;
-    }
-    Ok(())
 }
 
 /// The comparisons in reading order: the blocks', then the break lines'.
@@ -80,7 +62,9 @@ pub fn all_atoms(
 {
     let mut out = Vec::new(heap);
     for block in blocks {
-        lines_atoms(block, &mut out)?;
+        for case in block {
+            condition_atoms(&case.cond, &mut out)?;
+        }
     }
     for condition in breaks {
         condition_atoms(condition, &mut out)?;

@@ -6,17 +6,12 @@ ghost use Rattle.steps.specs.Meaning.{among};
 pub fn value_at(values: &[u16], v: usize) -> u16
     ensures { result ≡ slice_index values.now v }
 {
-    if v < values.len() { values[v] } else { 0 }
+    values.get(v).copied().unwrap_or(0)
 }
 
 /// Whether x is among these.
 pub fn is_among(xs: &[u16], x: u16) -> bool
     ensures { result ≡ among xs.now x }
 {
-    for y in xs {
-        if *y == x {
-            return true;
-        }
-    }
-    false
+    xs.contains(&x)
 }

@@ -1,23 +1,17 @@
-use Rattle.std.proofs.Common.{◌≡◌, ℕ, zero, suc, ◌<◌, List, [], ◌∷◌, map, length, get_or, vec_items, sym, refl, ap, ◌∙◌, arith}
+use Rattle.std.proofs.Common.{◌≡◌, ℕ, zero, suc, ◌<◌, List, [], ◌∷◌, map, length, get_or, vec_items, ap, ◌∙◌, arith}
 use lib.ListN.{length-map}
 use Rattle.conditions.specs.Variables.{names}
 use Rattle.ruletext.specs.Texts.{variable_of}
 use Rattle.ruletext.specs.declared.variable.TextVariable.{TextVariable}
 use Rattle.ruletext.proofs.text.RuleText.name.Goals as goal
 
-name_at : (xs : List TextVariable) (v : ℕ) (d : TextVariable) → v < length xs → get_or (names (map variable_of xs)) v [] ≡ vec_items (get_or xs v d).name
-name_at [] v d lt = absurd (omega arith)
-name_at (x ∷ xs) zero d lt = refl
-name_at (x ∷ xs) (suc v) d lt = name_at xs v d (omega arith)
+name_at : (xs : List TextVariable) (v : ℕ) (x : TextVariable) → v < length xs → x ≡ get_or xs v x → vec_items x.name ≡ get_or (names (map variable_of xs)) v []
+name_at [] v x lt e = absurd (omega arith)
+name_at (y ∷ xs) zero x lt e = ap (λ z. vec_items z.name) e
+name_at (y ∷ xs) (suc v) x lt e = name_at xs v x (omega arith) e
 
-pub returns-then-v-len : goal.returns-then-v-len
-returns-then-v-len c =
-    let variables = c.args.self.now.variables in
-    let xs = vec_items variables in
-    let lt : c.args.v < length xs = omega (arith, c.if-v-len.true, c.len.ensures, variables.ok.0) in
-    (omega (arith, length-map xs variable_of), c.as_slice.ensures.value ∙ ap (λ x. vec_items x.name) c.index.ensures ∙ sym (name_at xs c.args.v c.index.result.now lt))
-
-pub returns-else-v-len : goal.returns-else-v-len
-returns-else-v-len c =
-    let variables = c.args.self.now.variables in
-    omega (arith, length-map (vec_items variables) variable_of, c.if-v-len.false, c.len.ensures, variables.ok.0)
+pub returns : goal.returns
+returns c =
+    let xs = vec_items c.args.self.now.variables in
+    let found = rw (c.from.ensures, c.deref.ensures.value) at c.in_ok-variable.ensures.lookup in
+    (omega (arith, length-map xs variable_of, found.3.0), c.as_slice.ensures.value ∙ name_at xs c.args.v c.in_ok-variable.variable.now found.3.0 found.1)
