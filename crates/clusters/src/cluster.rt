@@ -2,8 +2,7 @@
 ghost use Rattle.std.specs.Prelude.{◌≡◌, ℕ, ◌<◌, ◌≤◌, length, take, slice_index};
 ghost use Rattle.columns.specs.Columns.{product};
 
-/// The most variables.
-pub const MOST_VARIABLES: usize = 12;
+use columns::source::MOST_VARIABLES;
 
 /// The sizes of 1 to 12 variables with at most 4,096 states, and the cluster of each.
 #[derive(Clone, Copy)]

@@ -3,8 +3,7 @@ ghost use Rattle.std.specs.Prelude.{◌≡◌, ℕ, ◌<◌, ◌≤◌, true, fa
 ghost use Rattle.sheets.specs.Numbering.{Renumbered};
 ghost use Rattle.clusters.specs.Labels.{relabelled, Labelled, Coarser, OneLabel};
 
-use crate::cluster::MOST_VARIABLES;
-use columns::source::ColumnedSource;
+use columns::source::{ColumnedSource, MOST_VARIABLES};
 use sheets::numbering::number_entries;
 
 /// Gives all variables with the label `from` the label `to`.

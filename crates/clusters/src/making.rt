@@ -3,9 +3,9 @@ ghost use Rattle.std.specs.Prelude.{◌≡◌, ℕ, ◌<◌, length, slice_index
 ghost use Rattle.columns.specs.Columns.{Columned};
 ghost use Rattle.clusters.specs.Makes.{ClustersOf};
 
-use crate::cluster::{Clusters, MOST_VARIABLES};
+use crate::cluster::Clusters;
 use crate::linking::{link_all, renumber};
-use columns::source::ColumnedSource;
+use columns::source::{ColumnedSource, MOST_VARIABLES};
 use rules::source::RuleSource;
 use std::array;
 

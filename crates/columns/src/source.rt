@@ -4,6 +4,9 @@ ghost use Rattle.columns.specs.Columns.{Columns, Columned, width_at, value_at};
 
 use rules::source::RuleSource;
 
+/// The most variables that a source may tell of.
+pub const MOST_VARIABLES: usize = 12;
+
 /// A rule source that also tells its variables and its atoms, the comparisons that its rules make. Any number may be asked, and no question is
 /// refused: of a number that is no state, no variable or no atom the answers are absence and no.
 pub trait ColumnedSource: RuleSource {

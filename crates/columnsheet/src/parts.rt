@@ -4,7 +4,7 @@ ghost use Rattle.tuples.specs.Meaning.{sizes_of, clusters_of, count_of};
 ghost use Rattle.columnsheet.specs.Groups.{held};
 ghost use Rattle.columnsheet.specs.Joins.{all_lawful};
 
-use clusters::cluster::MOST_VARIABLES;
+use columns::source::MOST_VARIABLES;
 use tuples::tuple::{MOST_TUPLES, Tuples};
 
 /// The tuples of each cluster in classes.

@@ -1,9 +1,10 @@
 -- What a condition is, and when it holds.
-use Rattle.std.specs.Prelude.{ℕ, Bool, true, ◌&&◌, ◌||◌, List, ◌==◌, nat_lt, slice_index}
+use Rattle.std.specs.Prelude.{ℕ, Bool, true, false, ◌&&◌, ◌||◌, List, ◌==◌, nat_lt, slice_index}
 use Rattle.conditions.specs.declared.condition.Relation.{Relation}
 use Rattle.conditions.specs.declared.condition.Relation.TheVariants.{Equal, Less}
 use Rattle.conditions.specs.declared.condition.Operand.{Operand}
 use Rattle.conditions.specs.declared.condition.Operand.TheVariants.{Variable, Number}
+use Rattle.conditions.specs.declared.condition.Atom.{Atom}
 use Rattle.conditions.specs.declared.condition.Cond.{Cond}
 use Rattle.conditions.specs.declared.condition.Cond.TheVariants.{Always, Compare, Not', And', Or'}
 use Rattle.std.proofs.Math.Bool as bool
@@ -19,7 +20,7 @@ pub data Tree : Type 0 where
 -- the condition that a `Cond` of the code is; p and q are the pointers of its boxes
 abbrev pub tree : Cond → Tree
 tree Always = always
-tree (Compare v r o) = compare v r o
+tree (Compare a) = compare a.variable a.relation a.operand
 tree (Not' p c) = not (tree c)
 tree (And' p c q d) = both (tree c) (tree d)
 tree (Or' p c q d) = either (tree c) (tree d)
@@ -41,6 +42,18 @@ truth vs (not c) = bool.not (truth vs c)
 truth vs (both c d) = truth vs c && truth vs d
 truth vs (either c d) = truth vs c || truth vs d
 
+-- whether a comparison is true where the variables have the values vs
+abbrev pub atom_truth : List ℕ → Atom → Bool
+atom_truth vs a = truth vs (compare a.variable a.relation a.operand)
+
+abbrev pub names : Operand → ℕ → Bool
+names (Variable k) v = k == v
+names (Number n) v = false
+
+-- a comparison reads the variables that stand in it, also where its truth is constant
+abbrev pub atom_reads : Atom → ℕ → Bool
+atom_reads a v = a.variable == v || names a.operand v
+
 abbrev pub known_operand : ℕ → Operand → Bool
 known_operand n (Variable k) = nat_lt k n
 known_operand n (Number m) = true
@@ -52,3 +65,6 @@ known_tree n (compare v r o) = nat_lt v n && known_operand n o
 known_tree n (not c) = known_tree n c
 known_tree n (both c d) = known_tree n c && known_tree n d
 known_tree n (either c d) = known_tree n c && known_tree n d
+
+abbrev pub known_atom : ℕ → Atom → Bool
+known_atom n a = known_tree n (compare a.variable a.relation a.operand)

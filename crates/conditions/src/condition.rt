@@ -1,6 +1,6 @@
 //! Conditions, and whether one holds.
 ghost use Rattle.std.specs.Prelude.{◌≡◌, slice_index};
-ghost use Rattle.conditions.specs.Conditions.{tree, truth, value, known_operand, known_tree};
+ghost use Rattle.conditions.specs.Conditions.{tree, truth, value, known_operand, known_tree, atom_truth, atom_reads, known_atom};
 
 /// How the two sides of a comparison stand to each other.
 #[derive(Clone, Copy, PartialEq, Eq, Debug)]
@@ -16,11 +16,19 @@ pub enum Operand {
     Number(u16),
 }
 
-/// A condition on the values of the variables. A comparison has a variable on its left.
+/// A comparison: a variable, given by its place among the variables, and what it is compared with.
+#[derive(Clone, Copy, PartialEq, Eq, Debug)]
+pub struct Atom {
+    pub variable: usize,
+    pub relation: Relation,
+    pub operand: Operand,
+}
+
+/// A condition on the values of the variables.
 #[derive(Drop)]
 pub enum Cond {
     Always,
-    Compare(usize, Relation, Operand),
+    Compare(Atom),
     Not(Box<Cond>),
     And(Box<Cond>, Box<Cond>),
     Or(Box<Cond>, Box<Cond>),
@@ -55,6 +63,34 @@ impl Operand {
     }
 }
 
+impl Atom {
+    /// Whether the comparison is true where the variables have these values; a variable that is not there counts as 0.
+    pub fn holds(self, values: &[u16]) -> bool
+        ensures { result ≡ atom_truth values.now self }
+    {
+        let left = value_at(values, self.variable);
+        let right = self.operand.value(values);
+        match self.relation {
+            Relation::Equal => left == right,
+            Relation::Less => left < right,
+        }
+    }
+
+    /// Whether the variable v stands in the comparison.
+    pub fn reads(self, v: usize) -> bool
+        ensures { result ≡ atom_reads self v }
+    {
+        self.variable == v || matches!(self.operand, Operand::Variable(k) if k == v)
+    }
+
+    /// Whether each variable is one of the first `count`.
+    fn is_known(self, count: usize) -> bool
+        ensures { result ≡ known_atom count self }
+    {
+        self.variable < count && self.operand.is_known(count)
+    }
+}
+
 impl Cond {
     /// Whether the condition holds where the variables have these values; a variable that is not there counts as 0.
     pub fn holds(&self, values: &[u16]) -> bool
@@ -62,14 +98,7 @@ impl Cond {
     {
         match self {
             Cond::Always => true,
-            Cond::Compare(variable, relation, operand) => {
-                let a = value_at(values, *variable);
-                let b = operand.value(values);
-                match *relation {
-                    Relation::Equal => a == b,
-                    Relation::Less => a < b,
-                }
-            }
+            Cond::Compare(atom) => atom.holds(values),
             Cond::Not(c) => !c.holds(values),
             Cond::And(c, d) => c.holds(values) && d.holds(values),
             Cond::Or(c, d) => c.holds(values) || d.holds(values),
@@ -82,7 +111,7 @@ impl Cond {
     {
         match self {
             Cond::Always => true,
-            Cond::Compare(v, _, o) => *v < count && o.is_known(count),
+            Cond::Compare(atom) => atom.is_known(count),
             Cond::Not(c) => c.is_known(count),
             Cond::And(c, d) => c.is_known(count) && d.is_known(count),
             Cond::Or(c, d) => c.is_known(count) && d.is_known(count),

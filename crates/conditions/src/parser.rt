@@ -7,7 +7,7 @@ ghost use Rattle.conditions.specs.Grammar.{relation, operand, or_level, and_leve
 ghost use Rattle.conditions.specs.Parser.{alone, comparison, condition};
 ghost use Rattle.conditions.specs.Variables.{names_of};
 
-use crate::condition::{Cond, Operand, Relation};
+use crate::condition::{Atom, Cond, Operand, Relation};
 use crate::fault::ConditionFault;
 use crate::variable::{Variable, place_of};
 use std::alloc::Global;
@@ -121,7 +121,11 @@ impl<'p, 'a> Parser<'p, 'a> {
         }
         let relation = relation_of(sign.text)?;
         let operand = operand_of(self.known, other.text)?;
-        Some(Cond::Compare(place_of(self.known, name.text), relation, operand))
+        Some(Cond::Compare(Atom {
+            variable: place_of(self.known, name.text),
+            relation,
+            operand,
+        }))
     }
 }
 

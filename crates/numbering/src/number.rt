@@ -5,10 +5,11 @@ ghost use Rattle.numbering.specs.Limits.{sound_sizes, Multiplied};
 ghost use Rattle.numbering.specs.Numbers.{sizes_in, values_in};
 
 use crate::sizes::{Sizes, Values};
+use columns::source::MOST_VARIABLES;
 use rules::list::MOST_STATES;
 
-/// The most variables that rules may have.
-pub const MOST_VARIABLES: usize = 12;
+/// The fewest values that a variable may have.
+pub const LEAST_VALUES: u16 = 2;
 
 /// The most values that a variable may have.
 pub const MOST_VALUES: u16 = 16;
@@ -35,7 +36,7 @@ fn multiplied(sizes: &[u16]) -> Option<u16>
 {
     let mut p = 1;
     for d in sizes {
-        if !(2..=MOST_VALUES).contains(d) {
+        if !(LEAST_VALUES..=MOST_VALUES).contains(d) {
             return None;
         }
         p *= usize::from(*d);

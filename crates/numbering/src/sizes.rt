@@ -3,7 +3,7 @@ ghost use Rattle.std.specs.Prelude.{◌≡◌, ◌≤◌, true, length, take};
 ghost use Rattle.columns.specs.Columns.{product};
 ghost use Rattle.numbering.specs.Limits.{sound_sizes};
 
-use crate::number::MOST_VARIABLES;
+use columns::source::MOST_VARIABLES;
 
 /// The sizes of 1 to 12 variables, each 2 to 16, whose product is at most 4,096.
 #[derive(Clone, Copy)]

@@ -10,11 +10,6 @@ use Rattle.conditions.specs.Variables.{place}
 use Rattle.reader.specs.CaseWords.{effect, effects, added, plus, plainly, rule}
 use Rattle.reader.specs.declared.rule_set.Effect.{Effect}
 
--- what the library calls `list_all` is `each`
-pub all_is_each : {A : Type 0} (f : A → Bool) (xs : List A) → list_all f xs ≡ each f xs
-all_is_each f [] = refl
-all_is_each f (x ∷ xs) = ap (λ t. f x && t) (all_is_each f xs)
-
 -- fewer than n words are left
 abbrev Leaves : ℕ → Option (Effect × List Word) → Type 0
 Leaves n None = Unit {0}

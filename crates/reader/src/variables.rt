@@ -7,22 +7,15 @@ ghost use Rattle.reader.specs.Meanings.{vars_in};
 ghost use Rattle.reader.specs.VariableLines.{numbers, declaration, rising, variable, product, section_variables};
 
 use crate::fault::ReadFault;
+use columns::source::MOST_VARIABLES;
 use conditions::variable::{Variable, is_declared};
+use numbering::number::{LEAST_VALUES, MOST_VALUES};
 use rules::list::MOST_STATES;
 use std::alloc::Global;
 use words::fault::WordFault;
 use words::line::Line;
 use words::text_reader::TextReader;
 use words::word::{is_name, number_of};
-
-/// The most variables that a text may declare.
-const MOST_VARIABLES: u16 = 12;
-
-/// The fewest values that a variable may have.
-const LEAST_SIZE: u16 = 2;
-
-/// The most values that a variable may have.
-const MOST_SIZE: u16 = 16;
 
 /// Whether each is below `size`, and above the one before.
 fn is_rising(values: &[u16], size: u16) -> bool
@@ -78,7 +71,7 @@ fn variable<'a>(
     let mut line = reader.next_line()?;
     let number = line.number;
     let v = declaration(&mut line, heap)?;
-    if !(LEAST_SIZE..=MOST_SIZE).contains(&v.size) {
+    if !(LEAST_VALUES..=MOST_VALUES).contains(&v.size) {
         return Err(ReadFault::Limit(number));
     }
     if is_declared(known, v.name) {
@@ -101,7 +94,7 @@ pub(crate) fn variables<'a>(
     ensures { Tells vars_in (section_variables reader.old.line (lines_of reader.old)) result reader.new }
 {
     let count = reader.heading(b"variables")?;
-    if !(1..=MOST_VARIABLES).contains(&count) {
+    if !(1..=MOST_VARIABLES).contains(&(count as usize)) {
         return Err(ReadFault::Limit(reader.line));
     }
     let mut known = Vec::new(heap);

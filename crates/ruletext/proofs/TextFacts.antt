@@ -8,14 +8,14 @@ use Rattle.columns.specs.Columns.{Columned, product, values, value}
 use Rattle.columns.proofs.Digits.{length_values, product_positive}
 use Rattle.numbering.specs.Limits.{sound_sizes}
 use Rattle.numbering.proofs.SizeFacts.{sound_some, sound_few, sound_ranged, sound_most, ranged_positive, ranged_at}
-use Rattle.conditions.specs.Conditions.{related}
 use Rattle.conditions.specs.declared.condition.Operand.{Operand}
 use Rattle.conditions.specs.declared.condition.Operand.TheVariants.{Variable, Number}
 use Rattle.reader.specs.RuleSets.{RuleSet}
-use Rattle.steps.specs.Atoms.{atoms_of, atom_truth, atom_reads, names, no_atom, text_columns}
+use Rattle.conditions.specs.Conditions.{related, atom_truth, atom_reads, names}
+use Rattle.steps.specs.Atoms.{atoms_of, no_atom, text_columns}
 use Rattle.ruletext.specs.Forms.{well_formed}
 use Rattle.steps.specs.Meaning.{sizes, size_of, is_state, values_at, text_rules}
-use Rattle.steps.specs.declared.atom.Atom.{Atom}
+use Rattle.conditions.specs.declared.condition.Atom.{Atom}
 
 module _ (r : RuleSet) (h : well_formed r ≡ true) where
   pub formed_sizes : sound_sizes (sizes r) ≡ true

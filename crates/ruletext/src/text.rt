@@ -7,10 +7,9 @@ ghost use Rattle.steps.specs.Meaning.{sizes};
 ghost use Rattle.ruletext.specs.Texts.{set_of};
 
 use crate::variable::TextVariable;
-use conditions::condition::Cond;
+use conditions::condition::{Atom, Cond};
 use numbering::sizes::Sizes;
 use reader::rule_set::Case;
-use steps::atom::Atom;
 
 /// A well-formed rule set that owns its parts, with its sizes and its atoms at hand.
 #[derive(Drop)]

@@ -2,12 +2,11 @@
 use Rattle.std.specs.Prelude.{ℕ, Bool, false, ◌&&◌, ◌||◌, List, [], ◌∷◌, ◌++◌, length, ◌==◌, nat_lt, slice_index_or}
 use Rattle.std.specs.List.{flat_map}
 use Rattle.columns.specs.Columns.{Columns}
-use Rattle.conditions.specs.Conditions.{Tree, always, compare, not, both, either, truth}
+use Rattle.conditions.specs.Conditions.{Tree, always, compare, not, both, either, atom_truth, atom_reads}
+use Rattle.conditions.specs.declared.condition.Atom.{Atom}
 use Rattle.conditions.specs.declared.condition.Relation.TheVariants.{Equal}
-use Rattle.conditions.specs.declared.condition.Operand.{Operand}
-use Rattle.conditions.specs.declared.condition.Operand.TheVariants.{Variable, Number}
+use Rattle.conditions.specs.declared.condition.Operand.TheVariants.{Number}
 use Rattle.reader.specs.RuleSets.{Rule, RuleSet}
-use Rattle.steps.specs.declared.atom.Atom.{Atom}
 use Rattle.steps.specs.Meaning.{sizes, is_state, values_at}
 
 -- the comparisons of a condition from left to right; `always` is none
@@ -27,18 +26,6 @@ block_atoms ls = flat_map line_atoms ls
 -- in reading order: the blocks, their lines in order, then the break lines
 abbrev pub atoms_of : RuleSet → List Atom
 atoms_of r = flat_map block_atoms r.blocks ++ flat_map atoms_in r.breaks
-
--- whether an atom is true where the variables have the values olds
-abbrev pub atom_truth : List ℕ → Atom → Bool
-atom_truth olds a = truth olds (compare a.variable a.relation a.operand)
-
-abbrev pub names : Operand → ℕ → Bool
-names (Variable k) v = k == v
-names (Number n) v = false
-
--- an atom reads the variables that stand in it, also where its truth is constant
-abbrev pub atom_reads : Atom → ℕ → Bool
-atom_reads a v = a.variable == v || names a.operand v
 
 abbrev pub no_atom : Atom
 no_atom = record { variable = 0; relation = Equal; operand = Number 0 }

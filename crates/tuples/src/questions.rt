@@ -7,7 +7,8 @@ ghost use Rattle.tuples.specs.Tuples.{tuple, tuples_before};
 
 use crate::state::tuples_in;
 use crate::tuple::Tuples;
-use clusters::cluster::{Clusters, MOST_VARIABLES};
+use clusters::cluster::Clusters;
+use columns::source::MOST_VARIABLES;
 
 impl Tuples {
     /// The clusters.

@@ -4,7 +4,8 @@ ghost use Rattle.clusters.specs.Shapes.{sizes_in, partition};
 ghost use Rattle.columns.specs.Columns.{product};
 ghost use Rattle.tuples.specs.Tuples.{tuple};
 
-use clusters::cluster::{Clusters, MOST_VARIABLES};
+use clusters::cluster::Clusters;
+use columns::source::MOST_VARIABLES;
 
 /// The tuple of each cluster in the state s, 0 behind the last.
 pub(crate) fn tuples_in(clusters: &Clusters, s: u16) -> [u16; MOST_VARIABLES]

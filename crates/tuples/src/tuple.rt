@@ -4,7 +4,8 @@ ghost use Rattle.clusters.specs.Shapes.{sizes_in, partition};
 ghost use Rattle.tuples.specs.Tables.{lowest_kept};
 ghost use Rattle.tuples.specs.Tuples.{tuples_before};
 
-use clusters::cluster::{Clusters, MOST_VARIABLES};
+use clusters::cluster::Clusters;
+use columns::source::MOST_VARIABLES;
 
 /// The most tuples that clusters may have in all.
 pub const MOST_TUPLES: usize = 1024;

@@ -10,13 +10,6 @@ use Rattle.std.specs.List.{FoldsTo, fold, list_all, slice_split, onto_first}
 use Rattle.words.specs.Texts.{spaced}
 use Rattle.words.specs.Words.{digit, decimal, Word, opens_with, after_first, each}
 
-module _ {A : Type 0} (f : A → Bool) (xs : List A) (i : ℕ) (d : A) (lt : i < length xs) where
-  pub each_stop : f (get_or xs i d) ≡ false → each f (drop i xs) ≡ false
-  each_stop e = at_drop_more (each f) xs i d lt ∙ ap (λ t. t && each f (drop (i + 1) xs)) e
-
-  pub each_more : f (get_or xs i d) ≡ true → each f (drop i xs) ≡ each f (drop (i + 1) xs)
-  each_more e = at_drop_more (each f) xs i d lt ∙ ap (λ t. t && each f (drop (i + 1) xs)) e
-
 -- `each` is what the library calls `list_all`
 pub each_is : {A : Type 0} (f : A → Bool) (xs : List A) → each f xs ≡ list_all f xs
 each_is f [] = refl

@@ -5,7 +5,7 @@ ghost use Rattle.words.specs.Reading.{headed};
 ghost use Rattle.words.specs.Words.{opens_with, after_first};
 
 use crate::cut::first_piece;
-use crate::word::{number_of, same};
+use crate::word::number_of;
 
 /// A word: a part of the text, with its line.
 #[derive(Clone, Copy)]
@@ -56,7 +56,7 @@ impl<'a> Line<'a> {
     {
         let first = self.next_token()?;
         let second = self.next_token()?;
-        if self.next_token().is_some() || !same(first.text, word) {
+        if self.next_token().is_some() || first.text != word {
             return None;
         }
         number_of(second.text)

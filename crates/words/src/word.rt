@@ -1,6 +1,5 @@
 //! Names and numbers.
 ghost use Rattle.std.specs.Prelude.{◌≡◌, ◌≤◌, true, length};
-ghost use Rattle.std.specs.Str.{bytes_eq};
 ghost use Rattle.words.specs.Words.{is_name, number_of, each, within, decimal, reserved};
 
 /// The longest name, in letters.
@@ -8,14 +7,6 @@ pub const MOST_LETTERS: usize = 8;
 
 /// The longest number, in digits.
 pub const MOST_DIGITS: usize = 4;
-
-/// Whether two words are equal byte for byte.
-// Kept: two edits in must-fail turn this comparison and `headed`'s call of it.
-pub fn same(a: &[u8], b: &[u8]) -> bool
-    ensures { result ≡ bytes_eq a.now b.now }
-{
-    a == b
-}
 
 /// Whether a word has a meaning of its own in conditions, so that it names no variable.
 fn is_reserved(word: &[u8]) -> bool
