@@ -1,5 +1,6 @@
 pub mod Writing
 pub mod Walks
+pub mod Found
 pub mod Forming
 pub mod Steps
 pub mod Following
