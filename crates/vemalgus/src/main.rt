@@ -27,7 +27,9 @@ fn settle_text(rt: &HostRuntime, text: &RuleText) -> anyhow::Result<()> {
         marks: &mut marks,
         scratch: &mut scratch,
     };
-    let said = settle(text, &mut WholeSheet::new(text), &mut areas).map_err(|_| anyhow!("the check was refused"))?;
+    let said = settle(text, &mut WholeSheet::new(text), &mut areas).map_err(|_| anyhow!(
+        "the check was refused"
+    ))?;
     println!(rt; "{said}")?;
     for s in path.iter().take(said.length as usize) {
         print_state(rt, text, *s)?;
