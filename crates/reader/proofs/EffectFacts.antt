@@ -1,8 +1,7 @@
 -- Results of a line, one after another.
-use Rattle.std.proofs.Common.{◌≡◌, ℕ, zero, suc, ◌<◌, ◌≤◌, Bool, true, false, ◌&&◌, List, [], ◌∷◌, ◌++◌, length, Some, None, codes, Option, sym, refl, ap, subst, arith}
+use Rattle.std.proofs.Common.{◌≡◌, ℕ, zero, suc, ◌<◌, ◌≤◌, true, false, List, [], ◌∷◌, ◌++◌, length, Some, None, codes, Option, sym, refl, subst, arith}
 use Rattle.std.proofs.lemmas.Bool.{cond_both}
-use Rattle.std.specs.List.{list_all}
-use Rattle.words.specs.Words.{Word, each, opens_with, after_first, is_name, number_of}
+use Rattle.words.specs.Words.{Word, opens_with, after_first, is_name, number_of}
 use Rattle.words.proofs.WordFacts.{after_shorter}
 use Rattle.conditions.specs.Conditions.{Tree}
 use Rattle.conditions.specs.Parser.{ended, condition}

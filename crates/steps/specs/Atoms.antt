@@ -1,5 +1,5 @@
 -- The comparisons of a rule set.
-use Rattle.std.specs.Prelude.{ℕ, Bool, false, ◌&&◌, ◌||◌, List, [], ◌∷◌, ◌++◌, length, ◌==◌, nat_lt, slice_index_or}
+use Rattle.std.specs.Prelude.{◌&&◌, List, [], ◌∷◌, ◌++◌, length, nat_lt, slice_index_or}
 use Rattle.std.specs.List.{flat_map}
 use Rattle.columns.specs.Columns.{Columns}
 use Rattle.conditions.specs.Conditions.{Tree, always, compare, not, both, either, atom_truth, atom_reads}
