@@ -5,5 +5,4 @@ pub mod Forming
 pub mod Steps
 pub mod Following
 pub mod Choosing
-pub mod Marking
 pub mod Outcomes
