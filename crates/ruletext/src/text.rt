@@ -6,8 +6,8 @@ ghost use Rattle.ruletext.specs.Forms.{well_formed};
 ghost use Rattle.steps.specs.Meaning.{sizes};
 ghost use Rattle.ruletext.specs.Texts.{set_of};
 
-use crate::variable::TextVariable;
 use conditions::condition::Cond;
+use conditions::variable::Variable;
 use numbering::sizes::Sizes;
 use reader::rule_set::Case;
 use steps::atom::Atom;
@@ -15,7 +15,7 @@ use steps::atom::Atom;
 /// A well-formed rule set that owns its parts, with its sizes and its atoms at hand.
 #[derive(Drop)]
 pub struct RuleText {
-    pub(crate) variables: Vec<TextVariable>,
+    pub(crate) variables: Vec<Variable<Vec<u8>>>,
     pub(crate) blocks: Vec<Vec<Case>>,
     pub(crate) breaks: Vec<Cond>,
     pub(crate) widths: Sizes,
