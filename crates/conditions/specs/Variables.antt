@@ -1,5 +1,6 @@
 -- The variables that a text declares, and where a name stands among them.
 use Rattle.std.specs.Prelude.{ℕ, zero, suc, Bool, cond, List, [], ◌∷◌, map, length, vec_items, nat_lt}
+use Rattle.std.specs.Borrow.{Bor}
 use Rattle.std.specs.Str.{bytes_eq}
 use Rattle.words.specs.Words.{Word}
 use Rattle.conditions.specs.declared.variable.Variable.{Variable}
@@ -28,12 +29,16 @@ size_at [] k = 0
 size_at (v ∷ vs) zero = v.size
 size_at (v ∷ vs) (suc k) = size_at vs k
 
--- what a `Variable` of the code is
-abbrev pub var_of : Variable → Var
-var_of v = record { name = v.name.now; size = v.size; starts = vec_items v.starts }
+-- what a `Variable` of the code is, where `word` says which word its name is
+abbrev pub var_with : {N : Type 0} → (N → Word) → Variable N → Var
+var_with word v = record { name = word v.name; size = v.size; starts = vec_items v.starts }
 
-abbrev pub vars_of : List Variable → List Var
+-- a variable whose name is a part of the text
+abbrev pub var_of : Variable (Bor Word) → Var
+var_of v = var_with (λ name. name.now) v
+
+abbrev pub vars_of : List (Variable (Bor Word)) → List Var
 vars_of vs = map var_of vs
 
-abbrev pub names_of : List Variable → List Word
+abbrev pub names_of : List (Variable (Bor Word)) → List Word
 names_of vs = names (map var_of vs)

@@ -19,7 +19,7 @@ use words::word::{is_name, number_of};
 pub fn whole_condition(
     line: &mut Line<'_>,
     heap: Global,
-    known: &[Variable<'_>],
+    known: &[Variable<&[u8]>],
 ) -> Result<Cond, ConditionFault>
     ensures takes { Takes (names_of known.now) (left line.old) line.old.number result }
     ensures formed { Formed tree (alone (condition (names_of known.now) (left line.old))) line.old.number result }
@@ -35,7 +35,7 @@ pub fn whole_condition(
 pub fn disjunction(
     line: &mut Line<'_>,
     heap: Global,
-    known: &[Variable<'_>],
+    known: &[Variable<&[u8]>],
 ) -> Result<Cond, ConditionFault>
     ensures { Reads (names_of known.now) or_level line.old result line.new }
 {
@@ -46,7 +46,7 @@ pub fn disjunction(
 #[derive(Clone, Copy)]
 struct Parser<'p, 'a> {
     heap: Global,
-    known: &'p [Variable<'a>],
+    known: &'p [Variable<&'a [u8]>],
 }
 
 impl<'p, 'a> Parser<'p, 'a> {
@@ -141,7 +141,7 @@ fn relation_of(word: &[u8]) -> Option<Relation>
 }
 
 /// The right side that a word is: a name or a number.
-fn operand_of(known: &[Variable<'_>], word: &[u8]) -> Option<Operand>
+fn operand_of(known: &[Variable<&[u8]>], word: &[u8]) -> Option<Operand>
     ensures { result ≡ operand (names_of known.now) word.now }
 {
     if is_name(word) {

@@ -1,5 +1,6 @@
 -- What the types of the code stand for.
 use Rattle.std.specs.Prelude.{ℕ, List, map, vec_items, Vec}
+use Rattle.std.specs.Borrow.{Bor}
 use Rattle.std.specs.declared.alloc.Global.{Global}
 use Rattle.words.specs.Words.{Word}
 use Rattle.conditions.specs.Conditions.{Tree, tree}
@@ -11,7 +12,7 @@ use Rattle.reader.specs.declared.blocks.BlockTitle.{BlockTitle}
 use Rattle.reader.specs.declared.rule_set.Case.{Case}
 use Rattle.reader.specs.declared.rule_set.RuleSet.{RuleSet as CodeRuleSet}
 
-abbrev pub vars_in : Vec Variable Global → List Var
+abbrev pub vars_in : Vec (Variable (Bor Word)) Global → List Var
 vars_in v = map var_of (vec_items v)
 
 abbrev pub rule_of : Case → Rule

@@ -46,7 +46,7 @@ impl Case {
     }
 
     /// Whether no variable that a result names is larger than the size.
-    fn is_fitting(&self, known: &[Variable<'_>], size: u16) -> bool
+    fn is_fitting(&self, known: &[Variable<&[u8]>], size: u16) -> bool
         ensures { result ≡ each (fitting_effect (vars_of known.now) size) self.now.effects.items }
     {
         self.effects.iter().all(|e| e.is_fitting(known, size))

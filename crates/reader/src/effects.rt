@@ -78,7 +78,7 @@ impl Effect {
     }
 
     /// Whether the variable, if it names one, is no larger than the size.
-    pub(crate) fn is_fitting(self, known: &[Variable<'_>], size: u16) -> bool
+    pub(crate) fn is_fitting(self, known: &[Variable<&[u8]>], size: u16) -> bool
         ensures { result ≡ fitting_effect (vars_of known.now) size self }
     {
         match self {

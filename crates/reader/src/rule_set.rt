@@ -19,7 +19,7 @@ pub struct Case {
 /// The variables, a block for each of them, and the conditions that break.
 #[derive(Drop)]
 pub struct RuleSet<'a> {
-    pub variables: Vec<Variable<'a>>,
+    pub variables: Vec<Variable<&'a [u8]>>,
     pub blocks: Vec<Vec<Case>>,
     pub breaks: Vec<Cond>,
 }

@@ -38,7 +38,7 @@ fn numbers(line: &mut Line<'_>, heap: Global) -> Result<Vec<u16>, ReadFault>
 }
 
 /// A name, a size and start values.
-fn declaration<'a>(line: &mut Line<'a>, heap: Global) -> Result<Variable<'a>, ReadFault>
+fn declaration<'a>(line: &mut Line<'a>, heap: Global) -> Result<Variable<&'a [u8]>, ReadFault>
     ensures { Forms var_of (declaration (left line.old)) line.old.number result }
 {
     let fault = WordFault::Form(line.number);
@@ -60,9 +60,9 @@ fn declaration<'a>(line: &mut Line<'a>, heap: Global) -> Result<Variable<'a>, Re
 fn variable<'a>(
     reader: &mut TextReader<'a>,
     heap: Global,
-    known: &[Variable<'a>],
+    known: &[Variable<&'a [u8]>],
     states: usize,
-) -> Result<Variable<'a>, ReadFault>
+) -> Result<Variable<&'a [u8]>, ReadFault>
     requires small { states ≤ 4096 }
     requires product { states ≡ product (vars_of known.now) }
     ensures tells { Tells var_of (variable (vars_of known.now) reader.old.line (lines_of reader.old)) result reader.new }
@@ -90,7 +90,7 @@ fn variable<'a>(
 pub(crate) fn variables<'a>(
     reader: &mut TextReader<'a>,
     heap: Global,
-) -> Result<Vec<Variable<'a>>, ReadFault>
+) -> Result<Vec<Variable<&'a [u8]>>, ReadFault>
     ensures { Tells vars_in (section_variables reader.old.line (lines_of reader.old)) result reader.new }
 {
     let count = reader.heading(b"variables")?;

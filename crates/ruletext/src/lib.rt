@@ -6,4 +6,4 @@ mod parts;
 mod reading;
 pub mod source;
 pub mod text;
-pub mod variable;
+mod variable;

@@ -9,7 +9,6 @@ ghost use Rattle.ruletext.specs.Texts.{variable_of};
 ghost use Rattle.ruletext.specs.Wholes.{rule_set, ReadAs};
 
 use crate::text::RuleText;
-use crate::variable::TextVariable;
 use conditions::variable::Variable;
 use numbering::sizes::Sizes;
 use reader::fault::ReadFault;
@@ -18,10 +17,10 @@ use std::alloc::{AllocError, Global};
 use steps::atom::all_atoms;
 
 /// A variable that owns its name.
-fn owned(heap: Global, variable: &Variable<'_>) -> Result<TextVariable, AllocError>
+fn owned(heap: Global, variable: &Variable<&[u8]>) -> Result<Variable<Vec<u8>>, AllocError>
     ensures { IfOk result (λ x. variable_of x ≡ var_of variable.now) }
 {
-    Ok(TextVariable {
+    Ok(Variable {
         name: variable.name.to_vec(heap)?,
         size: variable.size,
         starts: variable.starts.to_vec(heap)?,
@@ -29,7 +28,10 @@ fn owned(heap: Global, variable: &Variable<'_>) -> Result<TextVariable, AllocErr
 }
 
 /// The variables, each with a name of its own.
-fn all_owned(heap: Global, variables: &[Variable<'_>]) -> Result<Vec<TextVariable>, AllocError>
+fn all_owned(
+    heap: Global,
+    variables: &[Variable<&[u8]>],
+) -> Result<Vec<Variable<Vec<u8>>>, AllocError>
     ensures { IfOk result (λ out. map variable_of out.items ≡ map var_of variables.now) }
 {
     // Kept: tried with `try_collect`, whose clause doesn't say which variable each item came from, as an item may be an error.
@@ -41,7 +43,7 @@ fn all_owned(heap: Global, variables: &[Variable<'_>]) -> Result<Vec<TextVariabl
 }
 
 /// The sizes of the variables.
-fn sizes_of(heap: Global, variables: &[TextVariable]) -> Result<Vec<u16>, AllocError>
+fn sizes_of(heap: Global, variables: &[Variable<Vec<u8>>]) -> Result<Vec<u16>, AllocError>
     ensures { IfOk result (λ out. out.items ≡ map size_of (map variable_of variables.now)) }
 {
     variables.iter().map(|variable| variable.size).collect(heap)

@@ -6,15 +6,15 @@ ghost use Rattle.ruletext.specs.Forms.{well_formed};
 ghost use Rattle.steps.specs.Meaning.{sizes};
 ghost use Rattle.ruletext.specs.Texts.{set_of};
 
-use crate::variable::TextVariable;
 use conditions::condition::{Atom, Cond};
+use conditions::variable::Variable;
 use numbering::sizes::Sizes;
 use reader::rule_set::Case;
 
 /// A well-formed rule set that owns its parts, with its sizes and its atoms at hand.
 #[derive(Drop)]
 pub struct RuleText {
-    pub(crate) variables: Vec<TextVariable>,
+    pub(crate) variables: Vec<Variable<Vec<u8>>>,
     pub(crate) blocks: Vec<Vec<Case>>,
     pub(crate) breaks: Vec<Cond>,
     pub(crate) widths: Sizes,

@@ -1,16 +1,17 @@
-use Rattle.std.proofs.Common.{◌≡◌, ℕ, Bool, ◌&&◌, List, [], ◌∷◌, map, length, vec_items, refl, ap, ◌∙◌, rules, tests, arith}
+use Rattle.std.proofs.Common.{◌≡◌, ℕ, Bool, ◌&&◌, List, [], ◌∷◌, map, length, Vec, vec_items, refl, ap, ◌∙◌, rules, tests, arith}
 use Rattle.std.specs.List.{list_all, zip}
+use Rattle.std.specs.declared.alloc.Global.{Global}
 use Rattle.std.proofs.lemmas.Iterator.{YieldsList-from_slice, YieldsList-from_zip}
 use Rattle.std.proofs.lemmas.Iterator.Search.{all_from_yields_List}
+use Rattle.conditions.specs.declared.variable.Variable.{Variable}
 use Rattle.steps.specs.Meaning.{all_start, among}
 use Rattle.ruletext.specs.Texts.{variable_of}
-use Rattle.ruletext.specs.declared.variable.TextVariable.{TextVariable}
 use Rattle.ruletext.proofs.variable.all_start.Goals as goal
 
-abbrev starts_with : TextVariable × ℕ → Bool
+abbrev starts_with : Variable (Vec ℕ Global) × ℕ → Bool
 starts_with p = among (vec_items p.0.starts) p.1
 
-all_pairs : (xs : List TextVariable) (vs : List ℕ) → length vs ≡ length xs → list_all starts_with (zip xs vs) ≡ all_start (map variable_of xs) vs
+all_pairs : (xs : List (Variable (Vec ℕ Global))) (vs : List ℕ) → length vs ≡ length xs → list_all starts_with (zip xs vs) ≡ all_start (map variable_of xs) vs
 all_pairs [] vs e = refl
 all_pairs (x ∷ xs) [] e = absurd (omega arith)
 all_pairs (x ∷ xs) (v ∷ vs) e = ap (λ b. among (vec_items x.starts) v && b) (all_pairs xs vs (omega arith))
