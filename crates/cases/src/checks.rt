@@ -23,29 +23,12 @@ const STEPS: [Transition; 4] = [
 
 const FLAGS: [u8; 4] = [1, 0, 0, 2];
 
-/// The memory that is lent to the calls.
-#[derive(Drop)]
-struct Memory {
-    path: [u16; 4],
-    marks: [u8; 4],
-    scratch: [u16; 8],
-}
-
-impl Memory {
-    fn new() -> Self {
-        Memory {
-            path: [9; 4],
-            marks: [9; 4],
-            scratch: [9; 8],
-        }
-    }
-
-    fn lend(&mut self) -> Areas<'_> {
-        Areas {
-            path: &mut self.path,
-            marks: &mut self.marks,
-            scratch: &mut self.scratch,
-        }
+/// The areas that are lent to a call.
+fn lend<'a>(path: &'a mut [u16], marks: &'a mut [u8], scratch: &'a mut [u16]) -> Areas<'a> {
+    Areas {
+        path,
+        marks,
+        scratch,
     }
 }
 
@@ -53,9 +36,9 @@ impl Memory {
 fn suspected(
     list: &TransitionList,
     sheet: &WholeSheet,
-    lent: &mut Memory,
+    lent: &mut Areas<'_>,
 ) -> Result<Suspect, Fail> {
-    match search(begin(sheet), list, sheet, &mut lent.lend()) {
+    match search(begin(sheet), list, sheet, lent) {
         Ok(Searched::Suspect(suspect)) => Ok(suspect),
         Ok(Searched::Holds(_)) => Err(Fail::new("no suspect run")),
         Err(_) => Err(Fail::new("the search was refused")),
@@ -66,10 +49,10 @@ fn suspected(
 fn spurious(
     list: &TransitionList,
     sheet: &WholeSheet,
-    lent: &mut Memory,
+    lent: &mut Areas<'_>,
 ) -> Result<Spurious, Fail> {
     let suspect = suspected(list, sheet, lent)?;
-    match trace(suspect, list, sheet, &mut lent.lend()) {
+    match trace(suspect, list, sheet, lent) {
         Ok(Followed::Spurious(spurious)) => Ok(spurious),
         Ok(Followed::Breaks(_)) => Err(Fail::new("a run was found")),
         Err(_) => Err(Fail::new("the trace was refused")),
@@ -81,20 +64,35 @@ fn a_check_that_holds_after_one_split(rt: HostRuntime) -> Result<(), Fail> {
     let list = TransitionList::new(4, &FLAGS, &STEPS)?;
     let mut sheet = WholeSheet::new(&list);
     assert_eq!(rt; sheet.count(), 2);
-    let mut lent = Memory::new();
-    let spurious = spurious(&list, &sheet, &mut lent)?;
-    assert_eq!(rt; lent.path, [0, 1, 0, 0]);
-    assert_eq!(rt; lent.marks, [1, 2, 0, 0], "0 is dead, 1 is bad");
-    assert_eq!(rt; lent.scratch, [0; 8]);
-    let Ok(open) = split(spurious, &mut sheet, &mut lent.lend()) else {
+    let mut path = [9; 4];
+    let mut marks = [9; 4];
+    let mut scratch = [9; 8];
+    let spurious = spurious(
+        &list,
+        &sheet,
+        &mut lend(&mut path, &mut marks, &mut scratch),
+    )?;
+    assert_eq!(rt; path, [0, 1, 0, 0]);
+    assert_eq!(rt; marks, [1, 2, 0, 0], "0 is dead, 1 is bad");
+    assert_eq!(rt; scratch, [0; 8]);
+    let Ok(open) = split(
+        spurious,
+        &mut sheet,
+        &mut lend(&mut path, &mut marks, &mut scratch),
+    ) else {
         return Err(Fail::new("the split was refused"));
     };
-    assert_eq!(rt; lent.path, [0; 4]);
-    assert_eq!(rt; lent.marks, [0; 4]);
+    assert_eq!(rt; path, [0; 4]);
+    assert_eq!(rt; marks, [0; 4]);
     assert_eq!(rt; sheet.class(1), Some(1));
     assert_eq!(rt; sheet.class(2), Some(0));
     assert_eq!(rt; sheet.class(3), Some(2));
-    let said = match search(open, &list, &sheet, &mut lent.lend()) {
+    let said = match search(
+        open,
+        &list,
+        &sheet,
+        &mut lend(&mut path, &mut marks, &mut scratch),
+    ) {
         Ok(Searched::Holds(done)) => report(done),
         Ok(Searched::Suspect(_)) => return Err(Fail::new("a suspect run")),
         Err(_) => return Err(Fail::new("the search was refused")),
@@ -129,11 +127,7 @@ fn a_whole_check_that_breaks_keeps_the_rest_of_its_areas(rt: HostRuntime) -> Res
         settle(
             &list,
             &mut sheet,
-            &mut Areas {
-                path: &mut path,
-                marks: &mut marks,
-                scratch: &mut scratch,
-            },
+            &mut lend(&mut path, &mut marks, &mut scratch),
         ),
         Ok(expected)
     );
@@ -148,16 +142,14 @@ fn areas_that_are_too_short_are_refused_and_kept(rt: HostRuntime) -> Result<(), 
     let list = TransitionList::new(4, &FLAGS, &STEPS)?;
     let mut sheet = WholeSheet::new(&list);
     let short = Err(CheckFault::Area(AreaFault::TooShort));
-    let mut lent = Memory::new();
+    let mut path = [9; 4];
+    let mut marks = [9; 4];
+    let mut scratch = [9; 8];
     assert_eq!(rt;
         settle(
             &list,
             &mut sheet,
-            &mut Areas {
-                path: &mut lent.path[0..3],
-                marks: &mut lent.marks,
-                scratch: &mut lent.scratch,
-            },
+            &mut lend(&mut path[0..3], &mut marks, &mut scratch),
         ),
         short
     );
@@ -165,11 +157,7 @@ fn areas_that_are_too_short_are_refused_and_kept(rt: HostRuntime) -> Result<(), 
         settle(
             &list,
             &mut sheet,
-            &mut Areas {
-                path: &mut lent.path,
-                marks: &mut lent.marks[0..3],
-                scratch: &mut lent.scratch,
-            },
+            &mut lend(&mut path, &mut marks[0..3], &mut scratch),
         ),
         short
     );
@@ -177,17 +165,13 @@ fn areas_that_are_too_short_are_refused_and_kept(rt: HostRuntime) -> Result<(), 
         settle(
             &list,
             &mut sheet,
-            &mut Areas {
-                path: &mut lent.path,
-                marks: &mut lent.marks,
-                scratch: &mut lent.scratch[0..7],
-            },
+            &mut lend(&mut path, &mut marks, &mut scratch[0..7]),
         ),
         short
     );
-    assert_eq!(rt; lent.path, [9; 4]);
-    assert_eq!(rt; lent.marks, [9; 4]);
-    assert_eq!(rt; lent.scratch, [9; 8]);
+    assert_eq!(rt; path, [9; 4]);
+    assert_eq!(rt; marks, [9; 4]);
+    assert_eq!(rt; scratch, [9; 8]);
     assert_eq!(rt; sheet.count(), 2);
     Ok(())
 }
@@ -197,11 +181,17 @@ fn a_sheet_of_another_size_is_refused(rt: HostRuntime) -> Result<(), Fail> {
     let list = TransitionList::new(4, &FLAGS, &STEPS)?;
     let other = TransitionList::new(1, &[1], &[])?;
     let mut sheet = WholeSheet::new(&other);
-    let mut lent = Memory::new();
-    let said = settle(&list, &mut sheet, &mut lent.lend());
+    let mut path = [9; 4];
+    let mut marks = [9; 4];
+    let mut scratch = [9; 8];
+    let said = settle(
+        &list,
+        &mut sheet,
+        &mut lend(&mut path, &mut marks, &mut scratch),
+    );
     assert_eq!(rt; said, Err(CheckFault::SizesDiffer));
     assert_eq!(rt; Refusal::from(CheckFault::SizesDiffer).number, 15);
-    assert_eq!(rt; lent.path, [9; 4]);
+    assert_eq!(rt; path, [9; 4]);
     Ok(())
 }
 
@@ -209,20 +199,36 @@ fn a_sheet_of_another_size_is_refused(rt: HostRuntime) -> Result<(), Fail> {
 fn a_tampered_path_is_refused_and_the_check_goes_on_after(rt: HostRuntime) -> Result<(), Fail> {
     let list = TransitionList::new(4, &FLAGS, &STEPS)?;
     let sheet = WholeSheet::new(&list);
-    let mut lent = Memory::new();
-    let suspect = suspected(&list, &sheet, &mut lent)?;
-    lent.path = [1, 0, 0, 0];
-    let Err(back) = trace(suspect, &list, &sheet, &mut lent.lend()) else {
+    let mut path = [9; 4];
+    let mut marks = [9; 4];
+    let mut scratch = [9; 8];
+    let suspect = suspected(
+        &list,
+        &sheet,
+        &mut lend(&mut path, &mut marks, &mut scratch),
+    )?;
+    path = [1, 0, 0, 0];
+    let Err(back) = trace(
+        suspect,
+        &list,
+        &sheet,
+        &mut lend(&mut path, &mut marks, &mut scratch),
+    ) else {
         return Err(Fail::new("the trace was accepted"));
     };
     assert_eq!(rt; back.fault, CheckFault::Trace(TraceFault::NoSuspectRun));
     assert_eq!(rt; Refusal::from(back.fault).number, 17);
-    assert_eq!(rt; lent.path, [1, 0, 0, 0]);
-    assert_eq!(rt; lent.marks, [0; 4]);
-    lent.path = [0, 1, 0, 0];
-    match trace(back.check, &list, &sheet, &mut lent.lend()) {
+    assert_eq!(rt; path, [1, 0, 0, 0]);
+    assert_eq!(rt; marks, [0; 4]);
+    path = [0, 1, 0, 0];
+    match trace(
+        back.check,
+        &list,
+        &sheet,
+        &mut lend(&mut path, &mut marks, &mut scratch),
+    ) {
         Ok(Followed::Spurious(_)) => {
-            assert_eq!(rt; lent.marks, [1, 2, 0, 0]);
+            assert_eq!(rt; marks, [1, 2, 0, 0]);
             Ok(())
         },
         Ok(Followed::Breaks(_)) => Err(Fail::new("a run was found")),
@@ -234,16 +240,26 @@ fn a_tampered_path_is_refused_and_the_check_goes_on_after(rt: HostRuntime) -> Re
 fn tampered_marks_are_refused_and_the_sheet_is_left(rt: HostRuntime) -> Result<(), Fail> {
     let list = TransitionList::new(4, &FLAGS, &STEPS)?;
     let mut sheet = WholeSheet::new(&list);
-    let mut lent = Memory::new();
-    let spurious = spurious(&list, &sheet, &mut lent)?;
-    lent.marks = [1, 2, 0, 2];
-    let Err(back) = split(spurious, &mut sheet, &mut lent.lend()) else {
+    let mut path = [9; 4];
+    let mut marks = [9; 4];
+    let mut scratch = [9; 8];
+    let spurious = spurious(
+        &list,
+        &sheet,
+        &mut lend(&mut path, &mut marks, &mut scratch),
+    )?;
+    marks = [1, 2, 0, 2];
+    let Err(back) = split(
+        spurious,
+        &mut sheet,
+        &mut lend(&mut path, &mut marks, &mut scratch),
+    ) else {
         return Err(Fail::new("the split was accepted"));
     };
     assert_eq!(rt; back.fault, CheckFault::Sheet(SheetFault::BadMarks));
     assert_eq!(rt; Refusal::from(back.fault).number, 18);
-    assert_eq!(rt; lent.path, [0, 1, 0, 0]);
-    assert_eq!(rt; lent.marks, [1, 2, 0, 2]);
+    assert_eq!(rt; path, [0, 1, 0, 0]);
+    assert_eq!(rt; marks, [1, 2, 0, 2]);
     assert_eq!(rt; sheet.count(), 2);
     Ok(())
 }
