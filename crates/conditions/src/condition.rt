@@ -1,5 +1,5 @@
 //! Conditions, and whether one holds.
-ghost use Rattle.std.specs.Prelude.{◌≡◌, slice_index};
+ghost use Rattle.std.specs.Prelude.{◌≡◌};
 ghost use Rattle.conditions.specs.Conditions.{tree, truth, value, known_operand, known_tree, atom_truth, atom_reads, known_atom};
 
 /// How the two sides of a comparison stand to each other.
@@ -34,20 +34,13 @@ pub enum Cond {
     Or(Box<Cond>, Box<Cond>),
 }
 
-/// The value of a variable; one that is not there counts as 0.
-fn value_at(values: &[u16], k: usize) -> u16
-    ensures { result ≡ slice_index values.now k }
-{
-    values.get(k).copied().unwrap_or(0)
-}
-
 impl Operand {
-    /// The value where the variables have these values.
+    /// The value where the variables have these values; a variable that is not there counts as 0.
     fn value(self, values: &[u16]) -> u16
         ensures { result ≡ value values.now self }
     {
         match self {
-            Operand::Variable(k) => value_at(values, k),
+            Operand::Variable(k) => values.get(k).copied().unwrap_or(0),
             Operand::Number(n) => n,
         }
     }
@@ -68,7 +61,7 @@ impl Atom {
     pub fn holds(self, values: &[u16]) -> bool
         ensures { result ≡ atom_truth values.now self }
     {
-        let left = value_at(values, self.variable);
+        let left = Operand::Variable(self.variable).value(values);
         let right = self.operand.value(values);
         match self.relation {
             Relation::Equal => left == right,
@@ -113,8 +106,7 @@ impl Cond {
             Cond::Always => true,
             Cond::Compare(atom) => atom.is_known(count),
             Cond::Not(c) => c.is_known(count),
-            Cond::And(c, d) => c.is_known(count) && d.is_known(count),
-            Cond::Or(c, d) => c.is_known(count) && d.is_known(count),
+            Cond::And(c, d) | Cond::Or(c, d) => c.is_known(count) && d.is_known(count),
         }
     }
 }

@@ -7,7 +7,7 @@ mod output;
 use anyhow::anyhow;
 use checking::settle::settle;
 use input::read_text;
-use output::print_state;
+use output::NamedState;
 use rules::refusal::Refusal;
 use rules::source::RuleSource;
 use ruletext::text::RuleText;
@@ -31,8 +31,8 @@ fn settle_text(rt: &HostRuntime, text: &RuleText) -> anyhow::Result<()> {
         "the check was refused"
     ))?;
     println!(rt; "{said}")?;
-    for s in path.iter().take(said.length as usize) {
-        print_state(rt, text, *s)?;
+    for state in path.iter().take(said.length as usize).copied() {
+        println!(rt; "{}", NamedState { text, state })?;
     }
     Ok(())
 }

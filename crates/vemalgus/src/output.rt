@@ -1,19 +1,28 @@
-//! The line of a state.
+//! How a state is printed.
 use columns::source::ColumnedSource;
 use ruletext::text::RuleText;
-use std::io::Write;
+use std::fmt;
 
-/// Prints a state by the names and the values of its variables.
-pub fn print_state(rt: &HostRuntime, text: &RuleText, s: u16) -> anyhow::Result<()> {
-    for v in 0..text.variables() {
-        if let (Some(name), Some(value)) = (text.name(v), text.value(s, v)) {
-            if v > 0 {
-                print!(rt; " ")?;
+/// A state of a text's rules, by the names and the values of its variables.
+#[derive(Drop)]
+pub struct NamedState<'a> {
+    pub text: &'a RuleText,
+    pub state: u16,
+}
+
+impl fmt::Display for NamedState<'_> {
+    fn fmt<W: fmt::Write>(&self, f: &mut fmt::Formatter<W>) -> fmt::Result {
+        for v in 0..self.text.variables() {
+            if let (Some(name), Some(value)) = (self.text.name(v), self.text.value(self.state, v)) {
+                if v > 0 {
+                    f.write_char(' ')?;
+                }
+                for letter in name {
+                    f.write_char(char::from(*letter))?;
+                }
+                write!(f, " {value}")?;
             }
-            rt.stdout().write_all(name)?;
-            print!(rt; " {value}")?;
         }
+        Ok(())
     }
-    println!(rt; "")?;
-    Ok(())
 }
