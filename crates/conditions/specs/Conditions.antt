@@ -46,13 +46,13 @@ truth vs (either c d) = truth vs c || truth vs d
 abbrev pub atom_truth : List ℕ → Atom → Bool
 atom_truth vs a = truth vs (compare a.variable a.relation a.operand)
 
-abbrev pub names : Operand → ℕ → Bool
-names (Variable k) v = k == v
-names (Number n) v = false
+abbrev pub operand_reads : Operand → ℕ → Bool
+operand_reads (Variable k) v = k == v
+operand_reads (Number n) v = false
 
 -- a comparison reads the variables that stand in it, also where its truth is constant
 abbrev pub atom_reads : Atom → ℕ → Bool
-atom_reads a v = a.variable == v || names a.operand v
+atom_reads a v = a.variable == v || operand_reads a.operand v
 
 abbrev pub known_operand : ℕ → Operand → Bool
 known_operand n (Variable k) = nat_lt k n

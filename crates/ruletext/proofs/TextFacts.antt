@@ -11,7 +11,7 @@ use Rattle.numbering.proofs.SizeFacts.{sound_some, sound_few, sound_ranged, soun
 use Rattle.conditions.specs.declared.condition.Operand.{Operand}
 use Rattle.conditions.specs.declared.condition.Operand.TheVariants.{Variable, Number}
 use Rattle.reader.specs.RuleSets.{RuleSet}
-use Rattle.conditions.specs.Conditions.{related, atom_truth, atom_reads, names}
+use Rattle.conditions.specs.Conditions.{related, atom_truth, atom_reads, operand_reads}
 use Rattle.steps.specs.Atoms.{atoms_of, no_atom, text_columns}
 use Rattle.ruletext.specs.Forms.{well_formed}
 use Rattle.steps.specs.Meaning.{sizes, size_of, is_state, values_at, text_rules}
@@ -43,7 +43,7 @@ agree_at ds s t k h =
     elim (cases_lt k (length ds)) [ inl lt ↦ h lt | inr le ↦ get_or_past (values ds s) k 0 (omega (arith, length_values ds s)) ∙ sym (get_or_past (values ds t) k 0 (omega (arith, length_values ds t))) ]
 
 module _ (ds : List ℕ) (s t : ℕ) where
-  compares : (v : ℕ) (r : _) (o : Operand) → ((k : ℕ) → (eqb v k || names o k) ≡ true → k < length ds → value ds s k ≡ value ds t k) → atom_truth (values ds s) (record { variable = v; relation = r; operand = o }) ≡ atom_truth (values ds t) (record { variable = v; relation = r; operand = o })
+  compares : (v : ℕ) (r : _) (o : Operand) → ((k : ℕ) → (eqb v k || operand_reads o k) ≡ true → k < length ds → value ds s k ≡ value ds t k) → atom_truth (values ds s) (record { variable = v; relation = r; operand = o }) ≡ atom_truth (values ds t) (record { variable = v; relation = r; operand = o })
   compares v r (Variable k) h =
       let left = agree_at ds s t v (h v (or_left _ _ (eq-eqb v v refl))) in
       let right = agree_at ds s t k (h k (or_right (eqb v k) _ (eq-eqb k k refl))) in
