@@ -1,3 +1,4 @@
+pub mod Lending
 pub mod Writing
 pub mod Walks
 pub mod Found

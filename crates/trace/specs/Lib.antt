@@ -2,3 +2,4 @@ pub mod Sets
 pub mod Refusals
 pub mod Traces
 pub mod Layers
+pub mod Lent
