@@ -16,7 +16,7 @@ pub invariant_of-result-clause-made : goal.invariant_of-result-clause-made
 invariant_of-result-clause-made g c =
     let law = g.met.C.ColumnedSource.columned c.args.source.now in
     let copied = sizes_copied law (c.from-variables.ensures ∙ c.variables-n.ensures) c.sizes_of-sizes.result c.sizes_of-sizes.ensures.long c.sizes_of-sizes.ensures.each in
-    c.size.ensures.tells ∙ sym law.states ∙ ap product (sym copied)
+    c.size.ensures ∙ sym law.states ∙ ap product (sym copied)
 
 pub returns-clause-made : goal.returns-clause-made
 returns-clause-made g c =
