@@ -63,9 +63,9 @@ pub trait Sheet {
         ensures gives { SplitGives (classes self.old) class marks.now result (classes self.new) }
         ensures formed { OnOk result (forms self.old class marks.now (classes self.new)) };
 
-    // Class numbers are below the count, and each number below it occurs.
+    /// Class numbers are below the count, and each number below it occurs.
     ghost lawful: { (x : Self) → Lawful (classes x) };
 
-    // The partition has no more states than this kind of sheet has room for.
+    /// The partition has no more states than this kind of sheet has room for.
     ghost held: { (x : Self) → states (classes x) ≤ capacity };
 }
