@@ -15,8 +15,7 @@ pub trait ColumnedSource: RuleSource {
 
     /// How many variables there are.
     fn variables(&self) -> u16
-        ensures tells { result ≡ length (columns self.now).sizes }
-        ensures columned { Columned (Self.RuleSource.rules self.now) (columns self.now) };
+        ensures { result ≡ length (columns self.now).sizes };
 
     /// How many values a variable has.
     fn width(&self, v: u16) -> Option<u16>
@@ -37,4 +36,7 @@ pub trait ColumnedSource: RuleSource {
     /// Whether an atom reads a variable.
     fn reads(&self, atom: u16, v: u16) -> bool
         ensures { result ≡ (columns self.now).reads atom v };
+
+    /// The variables make up the states, and the atoms are true of what they read.
+    ghost columned: { (x : Self) → Columned (Self.RuleSource.rules x) (columns x) };
 }

@@ -4,7 +4,7 @@ use Rattle.std.specs.List.{range_with_len}
 use Rattle.std.proofs.lemmas.List.FromFn.{fill_by_all}
 use Rattle.std.proofs.lemmas.List.{get_or-take, length-take-le}
 use Rattle.columns.specs.Columns.{Columns, Columned, product}
-use Rattle.sheets.specs.Classes.{Classes, states, class, Lawful}
+use Rattle.sheets.specs.Classes.{Classes, class}
 use Rattle.sheets.specs.Splits.{SplitInto}
 use Rattle.clusters.specs.Makes.{ClustersOf}
 use Rattle.clusters.specs.Shapes.{partition}
@@ -24,21 +24,14 @@ use Rattle.columnsheet.specs.Kept.{Grouping, parts_of, class_number}
 use Rattle.columnsheet.specs.declared.parts.Parts.{Parts}
 use Rattle.columnsheet.specs.Sheets.{sheet_classes}
 use Rattle.columnsheet.specs.declared.sheet.ColumnSheet.{ColumnSheet}
-use Rattle.columnsheet.proofs.OwnTuples.{own_grid, own_some, own_most, own_lawful, own_sized, own_joined, own_states}
+use Rattle.columnsheet.specs.OwnTuples.{own_grid, own_some, own_most, own_lawful, own_sized}
 use Rattle.columnsheet.proofs.SplitFacts.{columns_into}
 
-module _ (x : ColumnSheet) where
-  pub sheet_states : states (sheet_classes x) ≡ product (sizes_of x.parts.tuples)
-  sheet_states = own_states x.parts
-
-  pub sheet_lawful : Lawful (sheet_classes x)
-  sheet_lawful = own_joined x.parts
-
-  -- the table has the class of each state
-  pub sheet_table : (n : ℕ) → n ≡ product (sizes_of x.parts.tuples) → take n x.table ≡ (sheet_classes x).of
-  sheet_table n size =
-      let long : length (take n x.table) ≡ n = length-take-le n x.table (omega (arith, x.full, own_most x.parts.tuples)) in
-      fill_by_all (class_number x.parts) (take n x.table) n 0 long (λ s h. get_or-take n x.table s 0 h ∙ x.told s (omega arith)) ∙ ap (λ n. map (class_number x.parts) (range_with_len 0 n)) size
+-- the table has the class of each state
+pub sheet_table : (x : ColumnSheet) (n : ℕ) → n ≡ product (sizes_of x.parts.tuples) → take n x.table ≡ (sheet_classes x).of
+sheet_table x n size =
+    let long : length (take n x.table) ≡ n = length-take-le n x.table (omega (arith, x.full, own_most x.parts.tuples)) in
+    fill_by_all (class_number x.parts) (take n x.table) n 0 long (λ s h. get_or-take n x.table s 0 h ∙ x.told s (omega arith)) ∙ ap (λ n. map (class_number x.parts) (range_with_len 0 n)) size
 
 -- an accepted split: x is parted to y
 pub sheet_split : (x y : Parts) (marks : List ℕ) → y.tuples ≡ x.tuples

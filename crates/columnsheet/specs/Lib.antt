@@ -6,3 +6,5 @@ pub mod Kept
 pub mod Parting
 pub mod Refusals
 pub mod Sheets
+pub mod JoinFacts
+pub mod OwnTuples

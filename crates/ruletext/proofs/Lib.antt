@@ -1,4 +1,3 @@
-pub mod TextFacts
 pub mod NextFacts
 pub mod Formed
 mod Specimens

@@ -1,3 +1,4 @@
 pub mod Texts
 pub mod Forms
 pub mod Wholes
+pub mod TextFacts

@@ -9,3 +9,4 @@ pub mod Links
 pub mod Members
 pub mod Numbering
 pub mod Whole
+pub mod TableLaws

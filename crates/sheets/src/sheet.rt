@@ -48,9 +48,7 @@ pub trait Sheet {
 
     /// How many states there are.
     fn states(&self) -> u16
-        ensures tells { result ≡ states (classes self.now) }
-        ensures lawful { Lawful (classes self.now) }
-        ensures held { states (classes self.now) ≤ capacity };
+        ensures { result ≡ states (classes self.now) };
 
     /// How many classes there are.
     fn count(&self) -> u16
@@ -64,4 +62,10 @@ pub trait Sheet {
     fn split(&mut self, class: u16, marks: &[u8]) -> Result<(), SheetFault>
         ensures gives { SplitGives (classes self.old) class marks.now result (classes self.new) }
         ensures formed { OnOk result (forms self.old class marks.now (classes self.new)) };
+
+    /// Class numbers are below the count, and each number below it occurs.
+    ghost lawful: { (x : Self) → Lawful (classes x) };
+
+    /// The partition has no more states than this kind of sheet has room for.
+    ghost held: { (x : Self) → states (classes x) ≤ capacity };
 }

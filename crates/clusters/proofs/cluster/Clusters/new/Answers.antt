@@ -10,21 +10,20 @@ link_all-requires-clause-labelled g c =
 
 pub invariant_of-result-clause-wide : goal.invariant_of-result-clause-wide
 invariant_of-result-clause-wide g c =
-    let told = c.variables-n.ensures in
-    sizes_wide told.columned (c.from-variables.ensures ∙ told.tells) c.sizes_of-sizes.result c.sizes_of-sizes.ensures.long c.sizes_of-sizes.ensures.each
+    sizes_wide (g.met.C.ColumnedSource.columned c.args.source.now) (c.from-variables.ensures ∙ c.variables-n.ensures) c.sizes_of-sizes.result c.sizes_of-sizes.ensures.long c.sizes_of-sizes.ensures.each
 
 pub invariant_of-result-clause-made : goal.invariant_of-result-clause-made
 invariant_of-result-clause-made g c =
-    let told = c.variables-n.ensures in
-    let copied = sizes_copied told.columned (c.from-variables.ensures ∙ told.tells) c.sizes_of-sizes.result c.sizes_of-sizes.ensures.long c.sizes_of-sizes.ensures.each in
-    c.size.ensures.tells ∙ sym told.columned.states ∙ ap product (sym copied)
+    let law = g.met.C.ColumnedSource.columned c.args.source.now in
+    let copied = sizes_copied law (c.from-variables.ensures ∙ c.variables-n.ensures) c.sizes_of-sizes.result c.sizes_of-sizes.ensures.long c.sizes_of-sizes.ensures.each in
+    c.size.ensures ∙ sym law.states ∙ ap product (sym copied)
 
 pub returns-clause-made : goal.returns-clause-made
 returns-clause-made g c =
-    let told = c.variables-n.ensures in
-    let tells = c.from-variables.ensures ∙ told.tells in
+    let law = g.met.C.ColumnedSource.columned c.args.source.now in
+    let tells = c.from-variables.ensures ∙ c.variables-n.ensures in
     record {
-      sizes_are = sizes_copied told.columned tells c.sizes_of-sizes.result c.sizes_of-sizes.ensures.long c.sizes_of-sizes.ensures.each;
+      sizes_are = sizes_copied law tells c.sizes_of-sizes.result c.sizes_of-sizes.ensures.long c.sizes_of-sizes.ensures.each;
       clustered =
-          made_clustered told.columned tells c.link_all.ensures.labelled (λ a h. rw c.from-variables.ensures (c.link_all.ensures.one a h)) (omega arith) c.renumber-count.ensures;
+          made_clustered law tells c.link_all.ensures.labelled (λ a h. rw c.from-variables.ensures (c.link_all.ensures.one a h)) (omega arith) c.renumber-count.ensures;
     }

@@ -1,4 +1,4 @@
--- What a column sheet's tables keep, as facts about partitions.
+-- What a column sheet's tables keep, as facts about partitions. The laws of the column sheet as a sheet cite them, so they stand here.
 use Rattle.std.proofs.Common.{◌≡◌, ℕ, ◌+◌, ◌-◌, ◌<◌, ◌≤◌, true, eqb, ltb, get_or, replicate, ◌∙◌, arith}
 use Rattle.std.proofs.lemmas.List.{get_or-replicate}
 use Rattle.std.proofs.lemmas.List.Edits.{length-between, get_or-between}
@@ -21,7 +21,7 @@ use Rattle.columnsheet.specs.Groups.{held}
 use Rattle.columnsheet.specs.Joins.{joined, lawful_test, all_lawful}
 use Rattle.columnsheet.specs.Kept.{parts_of, class_count}
 use Rattle.columnsheet.specs.declared.parts.Parts.{Parts}
-use Rattle.columnsheet.proofs.JoinFacts.{joined_lawful, joined_states}
+use Rattle.columnsheet.specs.JoinFacts.{joined_lawful, joined_states}
 
 -- ── Lawful partitions as a test ──
 
@@ -92,8 +92,11 @@ module _ (p : Parts) where
   pub own_states : states (joined (product (sizes_of x)) (count_of x) (tuple (sizes_of x) (clusters_of x)) (parts_of p)) ≡ product (sizes_of x)
   own_states = joined_states (product (sizes_of x)) (count_of x) (width (sizes_of x) (clusters_of x)) (tuple (sizes_of x) (clusters_of x)) (part (sizes_of x) (clusters_of x)) (own_grid x) (parts_of p) own_lawful own_sized
 
+  pub own_held : states (joined (product (sizes_of x)) (count_of x) (tuple (sizes_of x) (clusters_of x)) (parts_of p)) ≤ 4096
+  own_held = omega (arith, own_states, own_most x)
+
   pub own_total : class_count p ≤ 4096
-  own_total = omega (arith, count_most (joined (product (sizes_of x)) (count_of x) (tuple (sizes_of x) (clusters_of x)) (parts_of p)) own_joined, own_states, own_most x)
+  own_total = omega (arith, count_most (joined (product (sizes_of x)) (count_of x) (tuple (sizes_of x) (clusters_of x)) (parts_of p)) own_joined, own_held)
 
   -- class numbers of tuples stay small
   pub own_small : (k : ℕ) → k < count_of x → (t : ℕ) → t < width (sizes_of x) (clusters_of x) k → class (parts_of p k) t < 1024
