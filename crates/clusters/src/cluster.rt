@@ -7,7 +7,7 @@ use columns::source::MOST_VARIABLES;
 /// The sizes of 1 to 12 variables with at most 4,096 states, and the cluster of each.
 #[derive(Clone, Copy)]
 pub struct Clusters {
-    // Kept: `number_entries` numbers the clusters as one slice of numbers, and the definitions read sizes and clusters as two lists of numbers.
+    // Kept: no heap is used, so that both are as long as the most variables; and `number_entries` numbers the clusters as one slice of numbers.
     /// How many values each variable has.
     pub(crate) sizes: [u16; MOST_VARIABLES],
     /// The cluster of each variable.

@@ -9,6 +9,7 @@ ghost use Rattle.columnsheet.specs.Firsts.{AtomOf};
 
 use columns::source::ColumnedSource;
 use rules::source::RuleSource;
+use sheets::splitting::DEAD;
 use tuples::tuple::Tuples;
 
 /// Tests of states, some for each cluster. Of a tuple a test says what it says of the lowest state with that tuple.
@@ -88,6 +89,6 @@ impl Tests for Deaths<'_> {
     }
 
     fn holds(&self, test: u16, s: u16) -> bool {
-        self.marks.get(usize::from(test) + usize::from(s)) == Some(&1)
+        self.marks.get(usize::from(test) + usize::from(s)) == Some(&DEAD)
     }
 }

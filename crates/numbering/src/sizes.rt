@@ -7,7 +7,7 @@ use columns::source::MOST_VARIABLES;
 
 /// The sizes of 1 to 12 variables, each 2 to 16, whose product is at most 4,096.
 #[derive(Clone, Copy)]
-// Kept: an array with its length beside it, here and in `Values`; the kit's `ArrayVec` is no `Copy` type, and its statements would have to be trusted.
+// Kept: no heap is used, so here and in `Values` an array has its length beside it; the statements of the kit's `ArrayVec` would be trusted too.
 pub struct Sizes {
     pub(crate) each: [u16; MOST_VARIABLES],
     pub(crate) count: usize,

@@ -63,9 +63,7 @@ impl RuleText {
         let variables = all_owned(heap, &variables)?;
         let sizes = sizes_of(heap, &variables)?;
         let atoms = all_atoms(heap, &blocks, &breaks)?;
-        let Some(widths) = Sizes::new(&sizes) else {
-            unreachable()
-        };
+        let widths = Sizes::new(&sizes).unwrap();
         Ok(RuleText {
             variables,
             blocks,

@@ -66,9 +66,6 @@ module _ (n k : ℕ) (f : ℕ → ℕ) (onto : Onto n k f) where
   pub back_in : (v i : ℕ) → i < k → (back v i < n) × (f (back v i) ≡ i)
   back_in v i h = elim (back_tells v i) [ inl t ↦ (t.1, t.2) | inr t ↦ omega arith ]
 
-  back_past : (v : ℕ) → back v k ≡ v
-  back_past v = elim (back_tells v k) [ inl t ↦ omega arith | inr t ↦ t.1 ]
-
   pub onto_most : k ≤ n
   onto_most = pigeons k n (back 0) (record {
     below = λ i h. (back_in 0 i h).0;

@@ -21,10 +21,6 @@ module _ (count n : ℕ) (table : List ℕ) where
   table_at room s h =
       sym (cond-true (ltb s (states (table_classes count n table))) (Some (class (table_classes count n table) s)) None (is_state room s h) ∙ ap Some (table_class s h))
 
-  pub table_member : n ≤ length table → (k s : ℕ) → s < n → eqb (get_or table s 0) k ≡ member (table_classes count n table) k s
-  table_member room k s h =
-      sym (ap (λ b. b && eqb (class (table_classes count n table) s) k) (is_state room s h) ∙ ap (λ x. eqb x k) (table_class s h))
-
 -- one class more is copied
 pub copy_more : (c : Classes) (table : List ℕ) (s k : ℕ) → s < length table → s < states c → class_at c s ≡ Some k → take s table ≡ take s c.of → take (s + 1) (set table s k) ≡ take (s + 1) c.of
 copy_more c table s k room inside told same =

@@ -4,10 +4,10 @@ ghost use Rattle.sheets.specs.Splits.{Splittable};
 ghost use Rattle.sheets.specs.Tables.{listed};
 
 /// The mark of a dead state.
-const DEAD: u8 = 1;
+pub const DEAD: u8 = 1;
 
 /// The mark of a bad state.
-pub(crate) const BAD: u8 = 2;
+pub const BAD: u8 = 2;
 
 /// Whether only members of the class are marked, as dead or as bad.
 fn marks_members(classes: &[u16], class: u16, marks: &[u8]) -> bool

@@ -104,7 +104,7 @@ impl Sheet for WholeSheet {
         if !is_splittable(&self.table[..n], self.count, class, marks) {
             return Err(SheetFault::BadMarks);
         }
-        // Kept: a copy is split and put back, since no proof is generated where a slice of a field is lent by `&mut` beside ghost fields.
+        // Kept: a copy is split and put back, since the borrow checker does not cover that a part of this field is lent by `&mut`.
         let mut table = self.table;
         let used = &mut table[..n];
         move_bad(used, self.count, marks);

@@ -28,11 +28,7 @@ impl Members {
     pub fn class(&self, s: u16) -> Option<u16>
         ensures { result ≡ class_at (partition self.now) s }
     {
-        if s < self.states {
-            Some(self.table[s as usize])
-        } else {
-            None
-        }
+        self.table[..self.states as usize].get(s as usize).copied()
     }
 
     /// Whether `s` is a state of the class `k`.
