@@ -16,6 +16,15 @@ use trace::area::Areas;
 const BOARD: &[u8] =
     b"variables 3\nday 3 1\nkept 3 1\nfull 2 0\nblocks 3\nday 1\nalways : day , day + 1\nkept 1\nfull = 0 : day\nfull 1\nfull = 0 : 0 , 1\nbreaks 1\nfull = 1 and not kept = day\n";
 
+/// The areas that are lent to a call.
+fn lend<'a>(path: &'a mut [u16], marks: &'a mut [u8], scratch: &'a mut [u16]) -> Areas<'a> {
+    Areas {
+        path,
+        marks,
+        scratch,
+    }
+}
+
 #[test]
 fn tuples_that_agree_on_all_comparisons_share_a_class(rt: HostRuntime) -> Result<(), Fail> {
     let text = b"variables 2\nx 3 0\ny 3 0\nblocks 2\nx 0\ny 0\nbreaks 3\nx = y\nx < y\ny = 2\n";
@@ -41,11 +50,7 @@ fn a_board_breaks_by_columns_without_a_split(rt: HostRuntime) -> Result<(), Fail
         begin(&sheet),
         &board,
         &sheet,
-        &mut Areas {
-            path: &mut path,
-            marks: &mut marks,
-            scratch: &mut scratch,
-        },
+        &mut lend(&mut path, &mut marks, &mut scratch),
     );
     let Ok(Searched::Suspect(suspect)) = found else {
         return Err(Fail::new("no suspect run"));
@@ -55,11 +60,7 @@ fn a_board_breaks_by_columns_without_a_split(rt: HostRuntime) -> Result<(), Fail
         suspect,
         &board,
         &sheet,
-        &mut Areas {
-            path: &mut path,
-            marks: &mut marks,
-            scratch: &mut scratch,
-        },
+        &mut lend(&mut path, &mut marks, &mut scratch),
     );
     let Ok(Followed::Breaks(done)) = followed else {
         return Err(Fail::new("no run of the rules"));
@@ -87,11 +88,7 @@ fn a_counter_by_twos_holds_by_columns_after_two_splits(rt: HostRuntime) -> Resul
     let said = settle(
         &counter,
         &mut sheet,
-        &mut Areas {
-            path: &mut path,
-            marks: &mut marks,
-            scratch: &mut scratch,
-        },
+        &mut lend(&mut path, &mut marks, &mut scratch),
     )?;
     let expected = Report {
         verdict: Verdict::Holds,
