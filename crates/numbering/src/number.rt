@@ -58,13 +58,6 @@ fn padded(given: &[u16]) -> [u16; MOST_VARIABLES]
 }
 
 impl Sizes {
-    /// The sizes, the first variable's first.
-    pub fn as_slice(&self) -> &[u16]
-        ensures { result.now ≡ sizes_in self.now }
-    {
-        &self.each[..self.count]
-    }
-
     /// These sizes, if they are accepted.
     pub fn new(given: &[u16]) -> Option<Sizes>
         ensures { MatchOption result (sound_sizes given.now ≡ false) (λ x. sizes_in x ≡ given.now) }

@@ -24,3 +24,14 @@ pub struct Values {
     pub(crate) count: usize,
     ghost counted: { count ≤ 12 },
 }
+
+impl Sizes {
+    ghost use Rattle.numbering.specs.Numbers.{sizes_in};
+
+    /// The sizes, the first variable's first.
+    pub fn as_slice(&self) -> &[u16]
+        ensures { result.now ≡ sizes_in self.now }
+    {
+        &self.each[..self.count]
+    }
+}
