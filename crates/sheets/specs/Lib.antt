@@ -10,3 +10,4 @@ pub mod Members
 pub mod Numbering
 pub mod Whole
 pub mod TableLaws
+pub mod StructureLaws
