@@ -1,10 +1,13 @@
 //! The calls of a check, one by one and as a whole.
+ghost use Rattle.checking.specs.Settling.{SettleGives};
+
 use checking::calls::{begin, report, search, split, trace};
 use checking::fault::CheckFault;
 use checking::settle::settle;
 use checking::stage::{Followed, Report, Searched, Spurious, Suspect, Verdict};
 use rules::list::TransitionList;
 use rules::refusal::Refusal;
+use rules::source::RuleSource;
 use rules::transition::Transition;
 use search::area::AreaFault;
 use sheets::sheet::{Sheet, SheetFault};
@@ -30,6 +33,27 @@ fn lend<'a>(path: &'a mut [u16], marks: &'a mut [u8], scratch: &'a mut [u16]) ->
         marks,
         scratch,
     }
+}
+
+/// Settles in three areas that are the caller's own. What `settle` says of the areas that it was lent is so said of these.
+fn settle_in<R: RuleSource, S: Sheet>(
+    source: &R,
+    sheet: &mut S,
+    path: &mut [u16],
+    marks: &mut [u8],
+    scratch: &mut [u16],
+) -> Result<Report, CheckFault>
+    ensures { SettleGives (R.rules source.now) (S.classes sheet.old) path.old marks.old scratch.old result (S.classes sheet.new) path.new marks.new scratch.new }
+{
+    settle(
+        source,
+        sheet,
+        &mut Areas {
+            path,
+            marks,
+            scratch,
+        },
+    )
 }
 
 /// A check of x that stands at its first suspect run.
@@ -124,11 +148,7 @@ fn a_whole_check_that_breaks_keeps_the_rest_of_its_areas(rt: HostRuntime) -> Res
         length: 3,
     };
     assert_eq!(rt;
-        settle(
-            &list,
-            &mut sheet,
-            &mut lend(&mut path, &mut marks, &mut scratch),
-        ),
+        settle_in(&list, &mut sheet, &mut path, &mut marks, &mut scratch),
         Ok(expected)
     );
     assert_eq!(rt; path, [0, 1, 2, 7]);
@@ -146,27 +166,15 @@ fn areas_that_are_too_short_are_refused_and_kept(rt: HostRuntime) -> Result<(), 
     let mut marks = [9; 4];
     let mut scratch = [9; 8];
     assert_eq!(rt;
-        settle(
-            &list,
-            &mut sheet,
-            &mut lend(&mut path[0..3], &mut marks, &mut scratch),
-        ),
+        settle_in(&list, &mut sheet, &mut path[0..3], &mut marks, &mut scratch),
         short
     );
     assert_eq!(rt;
-        settle(
-            &list,
-            &mut sheet,
-            &mut lend(&mut path, &mut marks[0..3], &mut scratch),
-        ),
+        settle_in(&list, &mut sheet, &mut path, &mut marks[0..3], &mut scratch),
         short
     );
     assert_eq!(rt;
-        settle(
-            &list,
-            &mut sheet,
-            &mut lend(&mut path, &mut marks, &mut scratch[0..7]),
-        ),
+        settle_in(&list, &mut sheet, &mut path, &mut marks, &mut scratch[0..7]),
         short
     );
     assert_eq!(rt; path, [9; 4]);
@@ -184,11 +192,7 @@ fn a_sheet_of_another_size_is_refused(rt: HostRuntime) -> Result<(), Fail> {
     let mut path = [9; 4];
     let mut marks = [9; 4];
     let mut scratch = [9; 8];
-    let said = settle(
-        &list,
-        &mut sheet,
-        &mut lend(&mut path, &mut marks, &mut scratch),
-    );
+    let said = settle_in(&list, &mut sheet, &mut path, &mut marks, &mut scratch);
     assert_eq!(rt; said, Err(CheckFault::SizesDiffer));
     assert_eq!(rt; Refusal::from(CheckFault::SizesDiffer).number, 15);
     assert_eq!(rt; path, [9; 4]);
