@@ -22,7 +22,7 @@ impl ColumnedSource for RuleText {
 
     #[tactic(auto, using(columns::proofs::Digits::length_values))]
     fn value(&self, s: u16, v: u16) -> Option<u16> {
-        if s >= self.widths.states() {
+        if s >= self.widths.states() || v >= self.widths.count() {
             return None;
         }
         let values = self.widths.values(s);

@@ -5,6 +5,8 @@ use Rattle.std.proofs.lemmas.Bool.{cases_eq, cases_lt}
 use Rattle.std.proofs.lemmas.List.{get_or-replicate, get_or-set_same, get_or-set_other, length-replicate, length-set}
 use Rattle.std.specs.Option.{unwrap_or}
 use Rattle.sheets.specs.Numbering.{Renumbered}
+use Rattle.sheets.specs.Slots.{content, no_number}
+use Rattle.sheets.specs.declared.slot.Slot.{Slot}
 
 -- The places of x before i are numbered in y, by the numbers v of what stands in x.
 pub record Ranking (x y : ℕ → ℕ) (v : ℕ → Option ℕ) (i count : ℕ) : Type 0 where
@@ -98,62 +100,74 @@ module _ (x y y' : ℕ → ℕ) (v v' : ℕ → Option ℕ) (i count : ℕ) (oth
       }
 
 -- the same over lists: a table xs that has become ys, and the numbers of 4096 entries
-pub record Ranked (xs ys : List ℕ) (vs : List (Option ℕ)) (i count : ℕ) : Type 0 where
+pub record Ranked (xs ys : List ℕ) (vs : List Slot) (i count : ℕ) : Type 0 where
   pub wide : length vs ≡ 4096
-  pub ranking : Ranking (λ s. get_or xs s 0) (λ s. get_or ys s 0) (λ a. get_or vs a None) i count
+  pub ranking : Ranking (λ s. get_or xs s 0) (λ s. get_or ys s 0) (λ a. content (get_or vs a no_number)) i count
 
-unnumbered : (n a : ℕ) → get_or (replicate {A = Option ℕ} n None) a None ≡ None
-unnumbered n a = elim (cases_lt a n) [ inl h ↦ get_or-replicate n a None None h | inr h ↦ get_or-eq_default (replicate {A = Option ℕ} n None) None (omega (arith, length-replicate {A = Option ℕ} n None)) ]
+module _ (none : Slot) (empty : none ≡ no_number) where
+  unnumbered : (n a : ℕ) → content (get_or (replicate n none) a no_number) ≡ None
+  unnumbered n a =
+      ap content
+      (elim (cases_lt a n) [
+        | inl h ↦ get_or-replicate n a none no_number h ∙ empty
+        | inr h ↦ get_or-eq_default (replicate n none) no_number (omega (arith, length-replicate n none))
+      ])
 
-pub ranked_none : (xs : List ℕ) → Ranked xs xs (replicate {A = Option ℕ} 4096 None) 0 0
-ranked_none xs = record {
-  wide = length-replicate {A = Option ℕ} 4096 None;
-  ranking = rank_none (λ s. get_or xs s 0) (λ a. get_or (replicate {A = Option ℕ} 4096 None) a None) (unnumbered 4096);
-}
+  pub ranked_none : (xs : List ℕ) → Ranked xs xs (replicate 4096 none) 0 0
+  ranked_none xs = record {
+    wide = length-replicate 4096 none;
+    ranking = rank_none (λ s. get_or xs s 0) (λ a. content (get_or (replicate 4096 none) a no_number)) (unnumbered 4096);
+  }
 
 -- the entry a at the place i gets its number, or else the next one
-module _ (xs ys : List ℕ) (vs : List (Option ℕ)) (i a count number : ℕ) (within : i < length ys) (inside : a < 4096) (is : a ≡ get_or ys i 0) (g : Ranked xs ys vs i count) where
+module _ (xs ys : List ℕ) (vs : List Slot) (i a count number : ℕ) (slot : Slot) (within : i < length ys) (inside : a < 4096) (is : a ≡ get_or ys i 0) (has : content slot ≡ Some number) (g : Ranked xs ys vs i count) where
+  abbrev before : ℕ → Option ℕ
+  before b = content (get_or vs b no_number)
+
+  abbrev behind : ℕ → Option ℕ
+  behind b = content (get_or (set vs a slot) b no_number)
+
   here : a ≡ get_or xs i 0
   here = is ∙ g.ranking.rest i (omega arith)
 
   wrote : get_or (set ys i number) i 0 ≡ number
   wrote = get_or-set_same ys i number 0 within
 
-  named_here : get_or (set vs a (Some number)) (get_or xs i 0) None ≡ Some (get_or (set ys i number) i 0)
-  named_here = rw (sym here, wrote) (get_or-set_same vs a (Some number) None (omega (arith, g.wide)))
+  named_here : behind (get_or xs i 0) ≡ Some (get_or (set ys i number) i 0)
+  named_here = rw (sym here, wrote) (ap content (get_or-set_same vs a slot no_number (omega (arith, g.wide))) ∙ has)
 
   others : (s : ℕ) → s ≢ i → get_or (set ys i number) s 0 ≡ get_or ys s 0
   others s ne = get_or-set_other ys i s number 0 ne
 
-  olds : (b : ℕ) → b ≢ get_or xs i 0 → get_or (set vs a (Some number)) b None ≡ get_or vs b None
-  olds b ne = get_or-set_other vs a b (Some number) None (λ e. ne (e ∙ here))
+  olds : (b : ℕ) → b ≢ get_or xs i 0 → behind b ≡ before b
+  olds b ne = ap content (get_or-set_other vs a b slot no_number (λ e. ne (e ∙ here)))
 
-  old : (k : ℕ) → get_or vs a None ≡ Some k → number ≡ k → Ranking (λ s. get_or xs s 0) (λ s. get_or (set ys i number) s 0) (λ b. get_or (set vs a (Some number)) b None) (i + 1) count
+  old : (k : ℕ) → before a ≡ Some k → number ≡ k → Ranking (λ s. get_or xs s 0) (λ s. get_or (set ys i number) s 0) behind (i + 1) count
   old k at told =
-      rank_old (λ s. get_or xs s 0) (λ s. get_or ys s 0) (λ s. get_or (set ys i number) s 0) (λ b. get_or vs b None) (λ b. get_or (set vs a (Some number)) b None) i count others olds named_here g.ranking
-      (ap (λ b. get_or vs b None) (sym here) ∙ at ∙ ap Some (sym told ∙ sym wrote))
+      rank_old (λ s. get_or xs s 0) (λ s. get_or ys s 0) (λ s. get_or (set ys i number) s 0) before behind i count others olds named_here g.ranking
+      (ap before (sym here) ∙ at ∙ ap Some (sym told ∙ sym wrote))
 
-  new : get_or vs a None ≡ None → number ≡ count → Ranking (λ s. get_or xs s 0) (λ s. get_or (set ys i number) s 0) (λ b. get_or (set vs a (Some number)) b None) (i + 1) (count + 1)
+  new : before a ≡ None → number ≡ count → Ranking (λ s. get_or xs s 0) (λ s. get_or (set ys i number) s 0) behind (i + 1) (count + 1)
   new at told =
-      rank_new (λ s. get_or xs s 0) (λ s. get_or ys s 0) (λ s. get_or (set ys i number) s 0) (λ b. get_or vs b None) (λ b. get_or (set vs a (Some number)) b None) i count others olds named_here g.ranking
-      (ap (λ b. get_or vs b None) (sym here) ∙ at) (wrote ∙ told)
+      rank_new (λ s. get_or xs s 0) (λ s. get_or ys s 0) (λ s. get_or (set ys i number) s 0) before behind i count others olds named_here g.ranking
+      (ap before (sym here) ∙ at) (wrote ∙ told)
 
-  cases : (slot : Option ℕ) → get_or vs a None ≡ slot → number ≡ unwrap_or slot count → (after : ℕ) → (number ≡ count → after ≡ count + 1) → (number ≢ count → after ≡ count)
-      → Ranking (λ s. get_or xs s 0) (λ s. get_or (set ys i number) s 0) (λ b. get_or (set vs a (Some number)) b None) (i + 1) after
+  cases : (o : Option ℕ) → before a ≡ o → number ≡ unwrap_or o count → (after : ℕ) → (number ≡ count → after ≡ count + 1) → (number ≢ count → after ≡ count)
+      → Ranking (λ s. get_or xs s 0) (λ s. get_or (set ys i number) s 0) behind (i + 1) after
   cases (Some k) at told after up same =
       let low : k < count = g.ranking.known a k at in
       rw (same (λ e. omega (arith, e, told))) (old k at told)
   cases None at told after up same = rw (up told) (new at told)
 
-  pub ranked_next : number ≡ unwrap_or (get_or vs a None) count → (after : ℕ) → (number ≡ count → after ≡ count + 1) → (number ≢ count → after ≡ count)
-      → Ranked xs (set ys i number) (set vs a (Some number)) (i + 1) after
-  ranked_next told after up same = record { wide = length-set vs a (Some number) ∙ g.wide; ranking = cases (get_or vs a None) refl told after up same }
+  pub ranked_next : number ≡ unwrap_or (before a) count → (after : ℕ) → (number ≡ count → after ≡ count + 1) → (number ≢ count → after ≡ count)
+      → Ranked xs (set ys i number) (set vs a slot) (i + 1) after
+  ranked_next told after up same = record { wide = length-set vs a slot ∙ g.wide; ranking = cases (before a) refl told after up same }
 
 -- all places are numbered
-pub ranked_all : (xs ys : List ℕ) (vs : List (Option ℕ)) (i count : ℕ) → length xs ≤ i → i ≤ length xs → Ranked xs ys vs i count → Renumbered (length xs) xs ys count
+pub ranked_all : (xs ys : List ℕ) (vs : List Slot) (i count : ℕ) → length xs ≤ i → i ≤ length xs → Ranked xs ys vs i count → Renumbered (length xs) xs ys count
 ranked_all xs ys vs i count all most r =
     let g = r.ranking in
-    let v : ℕ → Option ℕ = λ a. get_or vs a None in
+    let v : ℕ → Option ℕ = λ a. content (get_or vs a no_number) in
     let named : (s : ℕ) → s < length xs → v (get_or xs s 0) ≡ Some (get_or ys s 0) = λ s h. g.named s (omega arith) in
     record {
       few = omega (arith, g.few);

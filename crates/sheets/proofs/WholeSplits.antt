@@ -120,7 +120,7 @@ module _ (count k : ℕ) (xs ys marks : List ℕ) (lawful : Lawful (listed count
   bad_class : (s : ℕ) → s < length xs → get_or marks s 0 ≡ 2 → get_or xs s 0 ≡ k
   bad_class s h e = may.inside s h (omega arith)
 
-  moved_most : (s : ℕ) → s < length xs → get_or ys s 0 ≤ count
+  pub moved_most : (s : ℕ) → s < length xs → get_or ys s 0 ≤ count
   moved_most s h = elim (cases_eq (get_or marks s 0) 2) [ inl e ↦ omega (arith, at_bad s h e) | inr e ↦ omega (arith, at_other s h e, lawful.below s h) ]
 
   pub moved_numberable : length xs ≤ 4096 → Numberable ys

@@ -5,6 +5,7 @@ pub mod Splits
 pub mod Refusals
 pub mod Tables
 pub mod Walks
+pub mod Slots
 pub mod Links
 pub mod Members
 pub mod Numbering

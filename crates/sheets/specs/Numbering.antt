@@ -17,6 +17,13 @@ pub record Renumbered (n : ℕ) (xs ys : List ℕ) (count : ℕ) : Type 0 where
   pub occurs : (k : ℕ) → k < count → (s : ℕ) × (s < n) × (slice_index ys s ≡ k)
   pub numbered : (s k : ℕ) → s < n → k < slice_index ys s → (t : ℕ) × (t < s) × (slice_index ys t ≡ k)
 
+-- the first n entries of xs were moved to `to` by the marks, and then numbered in ys
+pub record MovedAnew (to n : ℕ) (marks xs ys : List ℕ) (count : ℕ) : Type 0 where
+  pub moved : List ℕ
+  pub long : length moved ≡ n
+  pub moves : Moved to n marks xs moved
+  pub anew : Renumbered n moved ys count
+
 -- a table that can be numbered: at most 4096 entries, each below 4096
 pub record Numberable (xs : List ℕ) : Type 0 where
   pub few : length xs ≤ 4096

@@ -4,6 +4,7 @@
 pub mod members;
 pub mod numbering;
 pub mod sheet;
+mod slot;
 pub mod splitting;
 pub mod structure;
 pub mod whole;

@@ -1,10 +1,12 @@
 //! The members of each class of a sheet, in tables that are made once.
-ghost use Rattle.std.specs.Prelude.{◌≡◌, ℕ, ◌+◌, ◌<◌, ◌≤◌, length, take, None, slice_index, slice_index_or};
+ghost use Rattle.std.specs.Prelude.{◌≡◌, ℕ, ◌+◌, ◌<◌, ◌≤◌, length, take, slice_index, slice_index_or};
 ghost use Rattle.std.proofs.Props.{props};
 ghost use Rattle.rules.specs.Next.{LowestFrom};
 ghost use Rattle.rules.proofs.NextFacts.{LowestFrom-prop};
 ghost use Rattle.sheets.specs.Links.{stands};
+ghost use Rattle.sheets.specs.Slots.{content, no_number};
 
+use crate::slot::Slot;
 use rules::list::MOST_STATES;
 
 mod build;
@@ -20,9 +22,9 @@ pub struct Members {
     /// The class of each state.
     table: [u16; MOST_STATES],
     /// The lowest member of each class.
-    first: [Option<u16>; MOST_STATES],
+    first: [Slot; MOST_STATES],
     /// For each state the next higher member of its class.
-    after: [Option<u16>; MOST_STATES],
+    after: [Slot; MOST_STATES],
     // There is room for every state and for every class, since there are no more classes than states.
     ghost full: { length table ≡ 4096 },
     ghost wide: { length first ≡ 4096 },
@@ -31,6 +33,6 @@ pub struct Members {
     ghost few: { count ≤ states },
     ghost below: { (s : ℕ) → s < states → slice_index table s < count },
     // Each list starts with the lowest member, and goes on with the next higher one.
-    ghost firsts: { (k : ℕ) → k < count → LowestFrom (stands (take states table) k) 0 (slice_index_or first k None) } by { Prim.hlevel (props, LowestFrom-prop) },
-    ghost afters: { (s : ℕ) → s < states → LowestFrom (stands (take states table) (slice_index table s)) (s + 1) (slice_index_or after s None) } by { Prim.hlevel (props, LowestFrom-prop) },
+    ghost firsts: { (k : ℕ) → k < count → LowestFrom (stands (take states table) k) 0 (content (slice_index_or first k no_number)) } by { Prim.hlevel (props, LowestFrom-prop) },
+    ghost afters: { (s : ℕ) → s < states → LowestFrom (stands (take states table) (slice_index table s)) (s + 1) (content (slice_index_or after s no_number)) } by { Prim.hlevel (props, LowestFrom-prop) },
 }

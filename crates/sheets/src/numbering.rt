@@ -2,6 +2,7 @@
 ghost use Rattle.std.specs.Prelude.{length, Decides};
 ghost use Rattle.sheets.specs.Numbering.{Numberable, NumberGives, Renumbered};
 
+use crate::slot::Slot;
 use rules::list::MOST_STATES;
 
 /// Whether a table has at most 4,096 entries, each below 4,096.
@@ -16,10 +17,11 @@ pub(crate) fn renumber(table: &mut [u16]) -> u16
     requires { Numberable table.old }
     ensures { Renumbered (length table.old) table.old table.new result }
 {
-    let mut numbers = [None; MOST_STATES];
+    let none = Slot::empty();
+    let mut numbers = [none; MOST_STATES];
     let mut count = 0;
     for x in table.iter_mut() {
-        let number = *numbers[usize::from(*x)].get_or_insert(count);
+        let number = numbers[usize::from(*x)].get_or_insert(count);
         if number == count {
             count += 1;
         }

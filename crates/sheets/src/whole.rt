@@ -1,6 +1,6 @@
 //! The whole-state sheet: one table entry a state.
-ghost use Rattle.std.specs.Prelude.{◌≡◌, ℕ, ◌<◌, ◌≤◌, true, length, nat_eq, slice_index};
-ghost use Rattle.sheets.specs.Numbering.{Moved, bit};
+ghost use Rattle.std.specs.Prelude.{◌≡◌, ℕ, ◌<◌, ◌≤◌, true, List, length, take, nat_eq, slice_index};
+ghost use Rattle.sheets.specs.Numbering.{Moved, MovedAnew, Numberable, bit};
 ghost use Rattle.sheets.specs.Structure.{any};
 ghost use Rattle.sheets.specs.Tables.{table_classes};
 ghost use Rattle.sheets.specs.TableLaws.{full_lawful, table_held};
@@ -38,6 +38,18 @@ fn move_bad(table: &mut [u16], to: u16, marks: &[u8])
             *class = to;
         }
     }
+}
+
+/// Moves the bad ones of the first `n` states to the class `to`, numbers the classes anew, and returns how many there are.
+fn part_bad(table: &mut [u16], n: usize, to: u16, marks: &[u8]) -> u16
+    requires room { n ≤ length table.old }
+    requires long { n ≤ length marks.now }
+    requires numberable { (moved : List ℕ) → length moved ≡ n → Moved to n marks.now (take n table.old) moved → Numberable moved }
+    ensures { MovedAnew to n marks.now (take n table.old) table.new result }
+{
+    let used = &mut table[..n];
+    move_bad(used, to, marks);
+    renumber(used)
 }
 
 /// Writes 1 for each state that breaks, and 0 for each other.
@@ -104,12 +116,7 @@ impl Sheet for WholeSheet {
         if !is_splittable(&self.table[..n], self.count, class, marks) {
             return Err(SheetFault::BadMarks);
         }
-        // Kept: a copy is split and put back, since the borrow checker does not cover that a part of this field is lent by `&mut`.
-        let mut table = self.table;
-        let used = &mut table[..n];
-        move_bad(used, self.count, marks);
-        self.count = renumber(used);
-        self.table = table;
+        self.count = part_bad(&mut self.table, n, self.count, marks);
         Ok(())
     }
 }

@@ -11,6 +11,8 @@ pub record Grid (n m : ℕ) (width : ℕ → ℕ) (tuple part : ℕ → ℕ → 
   pub part_most : (k s : ℕ) → s < n → part k s ≤ s
   pub part_same : (k s u : ℕ) → k < m → s < n → u < n → tuple k s ≡ tuple k u → part k s ≡ part k u
   pub part_tuple : (k s : ℕ) → k < m → s < n → tuple k (part k s) ≡ tuple k s
+  -- the part in k of a state's part in k is itself
+  pub part_part : (k s : ℕ) → k < m → s < n → part k (part k s) ≡ part k s
   -- s with the tuple of u in the cluster k
   pub mixed_below : (k s u : ℕ) → k < m → s < n → u < n → s - part k s + part k u < n
   pub mixed_in : (k s u : ℕ) → k < m → s < n → u < n → tuple k (s - part k s + part k u) ≡ tuple k u

@@ -5,7 +5,7 @@ use Rattle.columns.proofs.Digits.{Positive, number_below, length_values, values_
 use Rattle.clusters.specs.Shapes.{Shape}
 use Rattle.tuples.specs.Tuples.{within, width, tuple, only, part}
 use Rattle.tuples.proofs.Grids.{Grid}
-use Rattle.tuples.proofs.Within.{within_fit, within_positive, one_list, only_most, only_fit, only_in, only_same, only_at}
+use Rattle.tuples.proofs.Within.{within_fit, within_positive, one_list, only_most, only_fit, only_in, only_only, only_same, only_at}
 use Rattle.tuples.proofs.Mixed.{mix, mix_fit, mix_in, mix_out, mix_number, spread}
 
 pub wide_positive : (ds : List ℕ) → ((v : ℕ) → v < length ds → 2 ≤ get_or ds v 0) → Positive ds
@@ -60,6 +60,7 @@ module _ (ds cs : List ℕ) (m : ℕ) (shape : Shape ds cs m) where
         part_most = λ k s lt. omega (arith, only_most k ds cs (values ds s), number_values ds s shape_positive lt);
         part_same = λ k s u in_m a b e. ap (number ds) (only_same k cs (values ds s) (values ds u) (long s ∙ sym (long u)) (same_within k s u a b e));
         part_tuple = λ k s in_m lt. tuple_of s lt k (only k cs (values ds s)) (only_fit k ds cs (values ds s) shape.each (fits s lt)) (only_in k cs (values ds s));
+        part_part = λ k s in_m lt. ap (λ l. number ds (only k cs l)) (part_values k s lt) ∙ ap (number ds) (only_only k cs (values ds s));
         mixed_below = λ k s u in_m a b. subst (λ x. x < product ds) (mixed_number k s u a b) (number_below ds (mix k cs (values ds s) (values ds u)) (mixed_fit k s u a b));
         mixed_in = λ k s u in_m a b. subst (λ x. tuple ds cs k x ≡ tuple ds cs k u) (mixed_number k s u a b) (tuple_of u b k (mix k cs (values ds s) (values ds u)) (mixed_fit k s u a b) (mix_in k cs (values ds s) (values ds u) (long s) (long u)));
         mixed_out = λ k j s u in_m in_j other a b. subst (λ x. tuple ds cs j x ≡ tuple ds cs j s) (mixed_number k s u a b) (tuple_of s a j (mix k cs (values ds s) (values ds u)) (mixed_fit k s u a b) (mix_out k j cs (values ds s) (values ds u) other (long s) (long u)));

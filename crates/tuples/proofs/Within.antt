@@ -76,6 +76,13 @@ only_in k (c ∷ cs) (v ∷ vs) =
     let rest = only_in k cs vs in
     elim (eqb c k) as (λ b. cond b (cond b v 0 ∷ within k cs (only k cs vs)) (within k cs (only k cs vs)) ≡ cond b (v ∷ within k cs vs) (within k cs vs)) [ true ↦ ap (λ l. v ∷ l) rest | false ↦ rest ]
 
+pub only_only : (k : ℕ) (cs vs : List ℕ) → only k cs (only k cs vs) ≡ only k cs vs
+only_only k [] vs = refl
+only_only k (c ∷ cs) [] = refl
+only_only k (c ∷ cs) (v ∷ vs) =
+    let rest = only_only k cs vs in
+    elim (eqb c k) as (λ b. cond b (cond b v 0) 0 ∷ only k cs (only k cs vs) ≡ cond b v 0 ∷ only k cs vs) [ true ↦ ap (λ l. v ∷ l) rest | false ↦ ap (λ l. 0 ∷ l) rest ]
+
 only_cond : (b : Bool) (v w : ℕ) (vs ws xs ys : List ℕ) → cond b (v ∷ vs) vs ≡ cond b (w ∷ ws) ws → xs ≡ ys → cond b v 0 ∷ xs ≡ cond b w 0 ∷ ys
 only_cond true v w vs ws xs ys e rest = let first : v ≡ w = cc in λ i. first i ∷ rest i
 only_cond false v w vs ws xs ys e rest = ap (λ l. 0 ∷ l) rest

@@ -3,10 +3,12 @@ ghost use Rattle.std.specs.Prelude.{◌≡◌, ℕ, ◌<◌, ◌≤◌, length, 
 ghost use Rattle.sheets.specs.Classes.{states, class};
 ghost use Rattle.sheets.specs.Links.{Linked};
 ghost use Rattle.sheets.specs.Members.{partition, held};
+ghost use Rattle.sheets.specs.Slots.{content, no_number};
 ghost use Rattle.sheets.specs.Tables.{table_classes};
 
 use super::Members;
 use crate::sheet::Sheet;
+use crate::slot::Slot;
 use rules::list::MOST_STATES;
 
 /// Copies the classes of the first `n` states.
@@ -21,11 +23,12 @@ fn copy_classes<S: Sheet>(sheet: &S, n: u16, table: &mut [u16])
 }
 
 /// Links the members of each class, from the highest state down, so that each list rises. At first every list is empty.
-fn link(table: &[u16], n: u16, first: &mut [Option<u16>], after: &mut [Option<u16>])
+fn link(table: &[u16], n: u16, first: &mut [Slot], after: &mut [Slot])
     requires room { n ≤ length table.now }
     requires long { n ≤ length after.old }
     requires below { (s : ℕ) → s < n → slice_index table.now s < length first.old }
-    requires none { (k : ℕ) → k < length first.old → slice_index_or first.old k None ≡ None }
+    requires few { n ≤ 4096 }
+    requires none { (k : ℕ) → k < length first.old → content (slice_index_or first.old k no_number) ≡ None }
     ensures { Linked (take n table.now) 0 first.new after.new }
 {
     for s in (0..n).rev() {
@@ -44,8 +47,9 @@ fn tables<S: Sheet>(sheet: &S, n: u16, count: u16) -> Members
 {
     let mut table = [0; MOST_STATES];
     copy_classes(sheet, n, &mut table);
-    let mut first = [None; MOST_STATES];
-    let mut after = [None; MOST_STATES];
+    let none = Slot::empty();
+    let mut first = [none; MOST_STATES];
+    let mut after = [none; MOST_STATES];
     link(&table, n, &mut first, &mut after);
     Members {
         states: n,

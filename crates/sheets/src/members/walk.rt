@@ -31,6 +31,20 @@ impl Members {
         self.table[..self.states as usize].get(s as usize).copied()
     }
 
+    /// The lowest member of the class `k` that is not below `from`. Asked for the first member, or for the one after a member, it looks
+    /// the answer up; else it searches.
+    pub fn next_member(&self, k: u16, from: u16) -> Option<u16>
+        ensures { LowestFrom (member (partition self.now) k) from result }
+    {
+        if from == 0 {
+            return self.first_member(k);
+        }
+        if self.has_member(k, from - 1) {
+            return self.member_after(from - 1);
+        }
+        (from..self.states).find(|s| self.has_member(k, *s))
+    }
+
     /// Whether `s` is a state of the class `k`.
     pub fn has_member(&self, k: u16, s: u16) -> bool
         ensures { result ≡ member (partition self.now) k s }
@@ -43,7 +57,7 @@ impl Members {
         ensures { LowestFrom (member (partition self.now) k) 0 result }
     {
         if k < self.count {
-            self.first[k as usize]
+            self.first[k as usize].get()
         } else {
             None
         }
@@ -54,6 +68,6 @@ impl Members {
         requires { s < states (partition self.now) }
         ensures { LowestFrom (member (partition self.now) (class (partition self.now) s)) (s + 1) result }
     {
-        self.after[s as usize]
+        self.after[s as usize].get()
     }
 }

@@ -1,6 +1,7 @@
-use Rattle.std.proofs.Common.{ℕ, List, None, ap, arith}
+use Rattle.std.proofs.Common.{ℕ, List, ap, ◌∙◌, arith}
 use Rattle.std.proofs.lemmas.List.{get_or-replicate}
 use Rattle.sheets.specs.Classes.{Classes}
+use Rattle.sheets.specs.Slots.{content, no_number}
 use Rattle.sheets.proofs.Links.{linked_after}
 use Rattle.sheets.proofs.Tables.{copied}
 use Rattle.sheets.proofs.members.build.tables.Goals as goal
@@ -13,7 +14,8 @@ link-requires g c =
       room = omega (arith, c.requires.room, c.copy_classes.auto.table);
       long = c.requires.room;
       below = λ s h. omega (arith, copied table sheet.of c.args.n s c.copy_classes.ensures h, c.requires.below s h, c.requires.few, c.requires.room);
-      none = λ k h. get_or-replicate 4096 k None None h;
+      few = c.requires.room;
+      none = λ k h. ap content (get_or-replicate 4096 k c.empty-none.result no_number h ∙ c.empty-none.ensures);
     }
 
 pub invariant_of-result : goal.invariant_of-result
