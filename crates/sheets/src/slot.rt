@@ -3,11 +3,12 @@ ghost use Rattle.std.specs.Prelude.{◌≡◌, ◌<◌, Some};
 ghost use Rattle.std.specs.Option.{unwrap_or};
 ghost use Rattle.sheets.specs.Slots.{content, no_number};
 
-/// A number or none. An `Option<u16>` would take four bytes, and tables of these are made on the stack for each search, trace and split.
+/// A number or none. Tables of these are made on the stack for each search, trace and split.
 #[derive(Clone, Copy)]
 pub(crate) struct Slot {
     /// One more than the number, and 0 for none.
-    // Kept: with an `Option<u16>` the program needed 180 KiB of stack in place of 128, and a small check two fifths more time.
+    // Kept: with an `Option<u16>`, which takes four bytes, the program needed 180 KiB of stack in place of 128, and a small check two
+    // fifths more time.
     above: u16,
 }
 

@@ -40,7 +40,8 @@ fn move_bad(table: &mut [u16], to: u16, marks: &[u8])
     }
 }
 
-/// Moves the bad ones of the first `n` states to the class `to`, numbers the classes anew, and returns how many there are.
+/// Moves the bad ones of the first `n` states to the class `to`, numbers the classes anew, and returns how many there are. It takes the whole
+/// table, since a part of a field cannot be lent by `&mut`.
 fn part_bad(table: &mut [u16], n: usize, to: u16, marks: &[u8]) -> u16
     requires room { n ≤ length table.old }
     requires long { n ≤ length marks.now }
