@@ -7,8 +7,8 @@ ghost use Rattle.sheets.specs.Slots.{content, no_number};
 #[derive(Clone, Copy)]
 pub(crate) struct Slot {
     /// One more than the number, and 0 for none.
-    // Kept: with an `Option<u16>`, which takes four bytes, the program needed 180 KiB of stack in place of 128, and a small check two
-    // fifths more time.
+    // Kept: an `Option<u16>` takes four bytes. With tables of these, and a copy of the states' table in each split, the program needed
+    // 180 KiB of stack in place of 128, and a small check two fifths more time.
     above: u16,
 }
 
