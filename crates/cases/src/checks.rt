@@ -1,6 +1,7 @@
 //! The calls of a check, one by one and as a whole.
 ghost use Rattle.checking.specs.Settling.{SettleGives};
 
+use crate::ladder::Ladder;
 use checking::calls::{begin, report, search, split, trace};
 use checking::fault::CheckFault;
 use checking::settle::settle;
@@ -155,6 +156,35 @@ fn a_whole_check_that_breaks_keeps_the_rest_of_its_areas(rt: HostRuntime) -> Res
     assert_eq!(rt; marks, [0, 0, 0, 7]);
     assert_eq!(rt; scratch, [0, 0, 0, 0, 0, 0, 7]);
     Ok(())
+}
+
+#[test]
+fn a_ladder_is_climbed_to_its_top(rt: HostRuntime) {
+    let ladder = Ladder { top: 3 };
+    let mut sheet = WholeSheet::new(&ladder);
+    let mut path = [9; 4];
+    let mut marks = [9; 4];
+    let mut scratch = [9; 8];
+    let expected = Report {
+        verdict: Verdict::Breaks,
+        splits: 2,
+        first: 2,
+        last: 4,
+        length: 4,
+    };
+    assert_eq!(rt;
+        settle_in(&ladder, &mut sheet, &mut path, &mut marks, &mut scratch),
+        Ok(expected)
+    );
+    assert_eq!(rt; path, [0, 1, 2, 3]);
+}
+
+#[test]
+fn the_highest_ladder_has_256_rungs(rt: HostRuntime) {
+    let ladder = Ladder { top: 255 };
+    assert_eq!(rt; ladder.size(), 256);
+    assert_eq!(rt; ladder.next(254, 0), Some(255));
+    assert_eq!(rt; ladder.next(255, 0), None);
 }
 
 #[test]

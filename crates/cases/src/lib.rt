@@ -3,6 +3,7 @@
 
 #[cfg(test)]
 mod checks;
+pub mod ladder;
 #[cfg(test)]
 mod lists;
 #[cfg(test)]

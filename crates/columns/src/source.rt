@@ -14,8 +14,10 @@ pub trait ColumnedSource: RuleSource {
     ghost columns: { Self → Columns };
 
     /// How many variables there are.
+    // Kept: that they fit is a clause, since a law of the trait would ask it of values that no code can hold, in which a `u8` is any number.
     fn variables(&self) -> u16
-        ensures { result ≡ length (columns self.now).sizes };
+        ensures tells { result ≡ length (columns self.now).sizes }
+        ensures columned { Columned (Self.RuleSource.rules self.now) (columns self.now) };
 
     /// How many values a variable has.
     fn width(&self, v: u16) -> Option<u16>
@@ -36,7 +38,4 @@ pub trait ColumnedSource: RuleSource {
     /// Whether an atom reads a variable.
     fn reads(&self, atom: u16, v: u16) -> bool
         ensures { result ≡ (columns self.now).reads atom v };
-
-    /// The variables make up the states, and the atoms are true of what they read.
-    ghost columned: { (x : Self) → Columned (Self.RuleSource.rules x) (columns x) };
 }

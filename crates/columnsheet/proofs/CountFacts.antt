@@ -8,7 +8,7 @@ use Rattle.tuples.specs.Meaning.{count_of}
 use Rattle.columnsheet.specs.Kept.{class_count}
 use Rattle.columnsheet.specs.declared.parts.Parts.{Parts}
 use Rattle.columnsheet.proofs.JoinLoops.{sizes_positive, counts_are}
-use Rattle.columnsheet.specs.OwnTuples.{own_total}
+use Rattle.columnsheet.proofs.OwnTuples.{own_total}
 
 -- a factor that never makes a product smaller
 abbrev raised : ℕ → ℕ → ℕ

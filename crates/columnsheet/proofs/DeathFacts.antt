@@ -10,7 +10,7 @@ use Rattle.columnsheet.specs.ColumnSplits.{SplitCluster}
 use Rattle.columnsheet.specs.Parting.{AllSaidAlike, Parted}
 use Rattle.columnsheet.proofs.AlikeFacts.{dead, alike_rests}
 use Rattle.columnsheet.proofs.GroupFacts.{grouped_as}
-use Rattle.columnsheet.specs.OwnTuples.{own_grid}
+use Rattle.columnsheet.proofs.OwnTuples.{own_grid}
 
 pub parted_split : (x : Tuples) (k : ℕ) (marks : List ℕ) (d e : Classes) → k < count_of x → Parted x k (product (sizes_of x)) (λ rest. part (sizes_of x) (clusters_of x) k rest ≡ 0) (λ rest s. dead marks (rest + s)) d e
     → SplitCluster (sizes_of x) (partition x.clusters) marks k d e

@@ -19,7 +19,7 @@ use Rattle.columnsheet.specs.Firsts.{AtomOf, Agree}
 use Rattle.columnsheet.specs.Kept.{Grouping}
 use Rattle.columnsheet.specs.Parting.{AllSaidAlike, Parted}
 use Rattle.columnsheet.proofs.GroupFacts.{grouped_as}
-use Rattle.columnsheet.specs.OwnTuples.{own_grid}
+use Rattle.columnsheet.proofs.OwnTuples.{own_grid}
 
 module _ (x : Tuples) (k : ℕ) (hk : k < count_of x) (r : Rules) (c : Columns) (columned : Columned r c) (made : ClustersOf c x.clusters) where
   -- all that an atom of the cluster reads stands in the cluster

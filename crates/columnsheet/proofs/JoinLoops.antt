@@ -16,8 +16,8 @@ use Rattle.tuples.proofs.Widths.{before_more, positive_drop}
 use Rattle.columnsheet.specs.Joins.{counts_of, cluster_classes}
 use Rattle.columnsheet.specs.Kept.{parts_of}
 use Rattle.columnsheet.specs.declared.parts.Parts.{Parts}
-use Rattle.columnsheet.specs.JoinFacts.{over_length, over_at, counts_positive}
-use Rattle.columnsheet.specs.OwnTuples.{own_grid, own_some, own_end, own_lawful, own_sized, own_total, own_clusters}
+use Rattle.columnsheet.proofs.JoinFacts.{over_length, over_at, counts_positive}
+use Rattle.columnsheet.proofs.OwnTuples.{own_grid, own_some, own_end, own_lawful, own_sized, own_total, own_clusters}
 
 module _ (p : Parts) where
   abbrev sizes : List ℕ

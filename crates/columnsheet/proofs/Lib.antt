@@ -1,7 +1,9 @@
+pub mod JoinFacts
 pub mod AlikeFacts
 pub mod SplitFacts
 pub mod GroupFacts
 pub mod PieceFacts
+pub mod OwnTuples
 pub mod JoinLoops
 pub mod CountFacts
 pub mod PartLoops

@@ -16,7 +16,7 @@ use Rattle.columnsheet.specs.Groups.{piece}
 use Rattle.columnsheet.specs.Kept.{Grouping}
 use Rattle.columnsheet.specs.Parting.{SaidAlike, AllSaidAlike, Parted}
 use Rattle.columnsheet.proofs.GroupFacts.{grouped_as, below_last}
-use Rattle.columnsheet.specs.OwnTuples.{own_grid, own_few, own_end, own_clusters}
+use Rattle.columnsheet.proofs.OwnTuples.{own_grid, own_few, own_end, own_clusters}
 use Rattle.columnsheet.proofs.PieceFacts.{Renewed, renewed_part}
 
 bit_same : (a b : Bool) (x y : ℕ) → 2 * x + bit a ≡ 2 * y + bit b → (x ≡ y) × (a ≡ b)

@@ -24,7 +24,7 @@ use Rattle.columnsheet.specs.Kept.{Grouping, parts_of, class_number}
 use Rattle.columnsheet.specs.declared.parts.Parts.{Parts}
 use Rattle.columnsheet.specs.Sheets.{sheet_classes}
 use Rattle.columnsheet.specs.declared.sheet.ColumnSheet.{ColumnSheet}
-use Rattle.columnsheet.specs.OwnTuples.{own_grid, own_some, own_most, own_lawful, own_sized}
+use Rattle.columnsheet.proofs.OwnTuples.{own_grid, own_some, own_most, own_lawful, own_sized}
 use Rattle.columnsheet.proofs.SplitFacts.{columns_into}
 
 -- the table has the class of each state

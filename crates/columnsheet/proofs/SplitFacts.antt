@@ -9,7 +9,7 @@ use Rattle.tuples.proofs.Grids.{Grid}
 use Rattle.columnsheet.specs.Joins.{joined}
 use Rattle.columnsheet.specs.ColumnSplits.{SplitCluster, SplitColumns}
 use Rattle.columnsheet.proofs.AlikeFacts.{alike_dead}
-use Rattle.columnsheet.specs.JoinFacts.{joined_states, joined_same, joined_lawful}
+use Rattle.columnsheet.proofs.JoinFacts.{joined_states, joined_same, joined_lawful}
 
 module _ (ds : List ℕ) (p : Classes) (d : ℕ → Classes) (marks : List ℕ) (some : 0 < product ds) (grid : Grid (product ds) p.count (width ds p.of) (tuple ds p.of) (part ds p.of))
     (lawful : (k : ℕ) → k < p.count → Lawful (d k)) (sized : (k : ℕ) → k < p.count → states (d k) ≡ width ds p.of k) where

@@ -6,5 +6,3 @@ pub mod Kept
 pub mod Parting
 pub mod Refusals
 pub mod Sheets
-pub mod JoinFacts
-pub mod OwnTuples

@@ -4,7 +4,6 @@ ghost use Rattle.tuples.specs.Meaning.{sizes_of};
 ghost use Rattle.clusters.specs.Shapes.{partition};
 ghost use Rattle.columnsheet.specs.ColumnSplits.{SplitColumns};
 ghost use Rattle.columnsheet.specs.Sheets.{sheet_classes, cluster_parts};
-ghost use Rattle.columnsheet.specs.OwnTuples.{own_joined, own_held};
 
 use crate::sheet::ColumnSheet;
 use crate::tests::Deaths;
@@ -29,10 +28,6 @@ impl Sheet for ColumnSheet {
     ghost classes = { sheet_classes };
 
     ghost forms = { λ x _ marks d. SplitColumns (sizes_of x.parts.tuples) (partition x.parts.tuples.clusters) (cluster_parts x) marks d };
-
-    ghost lawful = { λ x. own_joined x.parts };
-
-    ghost held = { λ x. own_held x.parts };
 
     fn capacity() -> usize {
         Self::MOST

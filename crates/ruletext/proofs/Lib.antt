@@ -1,3 +1,4 @@
+pub mod TextFacts
 pub mod NextFacts
 pub mod Formed
 mod Specimens

@@ -1,4 +1,3 @@
 pub mod Texts
 pub mod Forms
 pub mod Wholes
-pub mod TextFacts

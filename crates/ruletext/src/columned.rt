@@ -1,7 +1,6 @@
 //! A rule text as a columned source.
 ghost use Rattle.steps.specs.Atoms.{text_columns};
 ghost use Rattle.ruletext.specs.Wholes.{rule_set};
-ghost use Rattle.ruletext.specs.TextFacts.{columned};
 
 use crate::text::RuleText;
 use columns::source::ColumnedSource;
@@ -9,8 +8,6 @@ use rules::source::RuleSource;
 
 impl ColumnedSource for RuleText {
     ghost columns = { λ x. text_columns (rule_set x) };
-
-    ghost columned = { λ x. columned (rule_set x) x.formed };
 
     fn variables(&self) -> u16 {
         self.widths.count()

@@ -1,8 +1,12 @@
 -- A bounded test, and what it tells.
-use Rattle.std.proofs.Common.{◌≡◌, ℕ, zero, suc, ◌+◌, ◌<◌, ◌≤◌, Bool, true, false, ◌||◌, ap, ◌∙◌, inl, inr, add-one, arith}
+use Rattle.std.proofs.Common.{◌≡◌, ℕ, zero, suc, ◌+◌, ◌<◌, ◌≤◌, Bool, true, false, ◌||◌, Decides, refl, ap, ◌∙◌, inl, inr, add-one, arith}
 use Rattle.std.proofs.lemmas.Bool.{cases_lt, cases_Bool, both_ways}
+use Rattle.std.proofs.lemmas.Bool.Decides.{Decides-below_or}
 use Rattle.sheets.specs.Structure.{any}
-use Rattle.sheets.specs.TableLaws.{any_decides}
+
+any_decides : (n : ℕ) (p : ℕ → Bool) → Decides (any n p) ((k : ℕ) × (k < n) × (p k ≡ true))
+unfolding any
+any_decides n p = Decides-below_or p (λ k. p k ≡ true) (λ m. any m p) (λ k. (λ e. e, λ e. e)) refl (λ _. refl) n
 
 pub some_from_any : (n : ℕ) (p : ℕ → Bool) → any n p ≡ true → (k : ℕ) × (k < n) × (p k ≡ true)
 some_from_any n p = (any_decides n p).0

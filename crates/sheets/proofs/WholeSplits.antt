@@ -1,7 +1,7 @@
 -- The whole-state sheet at first, and after a split.
 use Rattle.std.proofs.Common.{◌≡◌, ℕ, ◌<◌, ◌≤◌, Bool, true, false, cond, eqb, ◌≢◌, ◌↔◌, List, ◌++◌, length, get_or, sym, refl, ap, ◌∙◌, inl, inr, arith}
 use Rattle.std.proofs.lemmas.List.{get_or_append_left}
-use Rattle.std.proofs.lemmas.Bool.{cases_eq, cond-true, cond-false, eq-eqb, ne_eqb, both_ways}
+use Rattle.std.proofs.lemmas.Bool.{cases_eq, cond-true, cond-false, eq-eqb, ne_eqb, eqb-true, both_ways}
 use Rattle.rules.specs.Rules.{Rules}
 use Rattle.sheets.specs.Classes.{Classes, states, class, Lawful}
 use Rattle.sheets.specs.Numbering.{bit, Moved, Numberable, Renumbered}
@@ -9,9 +9,22 @@ use Rattle.sheets.specs.Splits.{Splittable, SplitInto}
 use Rattle.sheets.specs.Structure.{any}
 use Rattle.sheets.specs.Tables.{table_classes, listed}
 use Rattle.sheets.specs.Whole.{Numbered, FirstWhole, WholeSplit}
-use Rattle.sheets.proofs.Any.{any_from_some}
+use Rattle.sheets.proofs.Any.{some_from_any, any_from_some}
 use Rattle.sheets.proofs.Counts.{count_fewer}
 use Rattle.sheets.proofs.Tables.{table_states, table_class}
+
+-- the facts that a sheet's table keeps make its partition lawful
+pub table_lawful : (count n : ℕ) (xs : List ℕ) → n ≤ length xs → ((s : ℕ) → s < n → get_or xs s 0 < count)
+    → ((k : ℕ) → k < count → any n (λ s. eqb (get_or xs s 0) k) ≡ true) → Lawful (table_classes count n xs)
+table_lawful count n xs room below occurs =
+    let size = table_states count n xs room in
+    record {
+      below = λ s h. let inside : s < n = omega arith in omega (arith, table_class count n xs s inside, below s inside);
+      occurs = λ k h.
+          let o = some_from_any n (λ s. eqb (get_or xs s 0) k) (occurs k h) in
+          let inside = o.1 in
+          (o.0, omega arith, table_class count n xs o.0 inside ∙ eqb-true (get_or xs o.0 0) k o.2);
+    }
 
 -- a table that was numbered anew
 module _ (n : ℕ) (xs ys : List ℕ) (count : ℕ) (room : n ≤ length ys) (anew : Renumbered n xs ys count) where
@@ -19,15 +32,7 @@ module _ (n : ℕ) (xs ys : List ℕ) (count : ℕ) (room : n ≤ length ys) (an
   renumbered_occurs k h = let o = anew.occurs k h in any_from_some n (λ s. eqb (get_or ys s 0) k) o.0 o.1 (eq-eqb (get_or ys o.0 0) k o.2)
 
   pub renumbered_lawful : Lawful (table_classes count n ys)
-  renumbered_lawful =
-      let size = table_states count n ys room in
-      record {
-        below = λ s h. let inside : s < n = omega arith in omega (arith, table_class count n ys s inside, anew.below s inside);
-        occurs = λ k h.
-            let o = anew.occurs k h in
-            let inside = o.1 in
-            (o.0, omega arith, table_class count n ys o.0 inside ∙ o.2);
-      }
+  renumbered_lawful = table_lawful count n ys room anew.below renumbered_occurs
 
   pub renumbered_numbered : Numbered (table_classes count n ys)
   renumbered_numbered s k h l =

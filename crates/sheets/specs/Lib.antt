@@ -10,5 +10,3 @@ pub mod Links
 pub mod Members
 pub mod Numbering
 pub mod Whole
-pub mod TableLaws
-pub mod StructureLaws

@@ -47,8 +47,12 @@ pub trait Sheet {
         ensures { result ≡ capacity };
 
     /// How many states there are.
+    // Kept: what holds of the partition is a clause, since a law of the trait would ask it of values that no code can hold, in which a `u8` is any
+    // number.
     fn states(&self) -> u16
-        ensures { result ≡ states (classes self.now) };
+        ensures tells { result ≡ states (classes self.now) }
+        ensures lawful { Lawful (classes self.now) }
+        ensures held { states (classes self.now) ≤ capacity };
 
     /// How many classes there are.
     fn count(&self) -> u16
@@ -62,10 +66,4 @@ pub trait Sheet {
     fn split(&mut self, class: u16, marks: &[u8]) -> Result<(), SheetFault>
         ensures gives { SplitGives (classes self.old) class marks.now result (classes self.new) }
         ensures formed { OnOk result (forms self.old class marks.now (classes self.new)) };
-
-    /// Class numbers are below the count, and each number below it occurs.
-    ghost lawful: { (x : Self) → Lawful (classes x) };
-
-    /// The partition has no more states than this kind of sheet has room for.
-    ghost held: { (x : Self) → states (classes x) ≤ capacity };
 }

@@ -3,7 +3,6 @@ ghost use Rattle.std.specs.Prelude.{◌≡◌, ℕ, ◌<◌, ◌≤◌, true, Li
 ghost use Rattle.sheets.specs.Numbering.{Moved, MovedAnew, Numberable, bit};
 ghost use Rattle.sheets.specs.Structure.{any};
 ghost use Rattle.sheets.specs.Tables.{table_classes};
-ghost use Rattle.sheets.specs.TableLaws.{full_lawful, table_held};
 ghost use Rattle.sheets.specs.Whole.{FirstWhole, WholeSplit};
 
 use crate::numbering::renumber;
@@ -89,10 +88,6 @@ impl Sheet for WholeSheet {
     ghost classes = { λ x. table_classes x.count x.states x.table };
 
     ghost forms = { λ x _ marks d. WholeSplit (table_classes x.count x.states x.table) marks d };
-
-    ghost lawful = { λ x. full_lawful x.count x.states x.table x.full x.held x.below x.occurs };
-
-    ghost held = { λ x. table_held x.count x.states x.table x.full x.held };
 
     fn capacity() -> usize {
         Self::MOST

@@ -2,7 +2,7 @@ use Rattle.std.proofs.Common.{refl, false, arith}
 use Rattle.std.proofs.lemmas.Bool.{both_ways}
 use Rattle.sheets.specs.Tables.{listed}
 use Rattle.columnsheet.proofs.GroupFacts.{grouped_small}
-use Rattle.columnsheet.specs.OwnTuples.{own_few}
+use Rattle.columnsheet.proofs.OwnTuples.{own_few}
 use Rattle.columnsheet.proofs.PartLoops.{numbered_some, numbered_is, plain_numberable, said_none, said_skip, said_more}
 use Rattle.columnsheet.proofs.parting.part_cluster.Goals as goal
 use Rattle.columnsheet.proofs.parting.part_cluster.Goals.{then-is_of, else-is_of}

@@ -2,7 +2,7 @@ use Rattle.std.proofs.Common.{arith}
 use Rattle.tuples.specs.Meaning.{sizes_of, clusters_of}
 use Rattle.tuples.proofs.Widths.{before_more}
 use Rattle.columnsheet.proofs.JoinLoops.{start_is, end_is}
-use Rattle.columnsheet.specs.OwnTuples.{own_end}
+use Rattle.columnsheet.proofs.OwnTuples.{own_end}
 use Rattle.columnsheet.proofs.parting.places_of.Goals as goal
 
 pub returns : goal.returns

@@ -10,18 +10,18 @@ link_all-requires-clause-labelled g c =
 
 pub invariant_of-result-clause-wide : goal.invariant_of-result-clause-wide
 invariant_of-result-clause-wide g c =
-    sizes_wide (g.met.C.ColumnedSource.columned c.args.source.now) (c.from-variables.ensures ∙ c.variables-n.ensures) c.sizes_of-sizes.result c.sizes_of-sizes.ensures.long c.sizes_of-sizes.ensures.each
+    sizes_wide c.variables-n.ensures.columned (c.from-variables.ensures ∙ c.variables-n.ensures.tells) c.sizes_of-sizes.result c.sizes_of-sizes.ensures.long c.sizes_of-sizes.ensures.each
 
 pub invariant_of-result-clause-made : goal.invariant_of-result-clause-made
 invariant_of-result-clause-made g c =
-    let law = g.met.C.ColumnedSource.columned c.args.source.now in
-    let copied = sizes_copied law (c.from-variables.ensures ∙ c.variables-n.ensures) c.sizes_of-sizes.result c.sizes_of-sizes.ensures.long c.sizes_of-sizes.ensures.each in
-    c.size.ensures ∙ sym law.states ∙ ap product (sym copied)
+    let law = c.variables-n.ensures.columned in
+    let copied = sizes_copied law (c.from-variables.ensures ∙ c.variables-n.ensures.tells) c.sizes_of-sizes.result c.sizes_of-sizes.ensures.long c.sizes_of-sizes.ensures.each in
+    c.size.ensures.tells ∙ sym law.states ∙ ap product (sym copied)
 
 pub returns-clause-made : goal.returns-clause-made
 returns-clause-made g c =
-    let law = g.met.C.ColumnedSource.columned c.args.source.now in
-    let tells = c.from-variables.ensures ∙ c.variables-n.ensures in
+    let law = c.variables-n.ensures.columned in
+    let tells = c.from-variables.ensures ∙ c.variables-n.ensures.tells in
     record {
       sizes_are = sizes_copied law tells c.sizes_of-sizes.result c.sizes_of-sizes.ensures.long c.sizes_of-sizes.ensures.each;
       clustered =

@@ -1,6 +1,6 @@
 use Rattle.std.proofs.Common.{◌+◌, get_or, sym, ◌∙◌, arith}
 use Rattle.columnsheet.proofs.JoinLoops.{start_is, place_at}
-use Rattle.columnsheet.specs.OwnTuples.{own_class}
+use Rattle.columnsheet.proofs.OwnTuples.{own_class}
 use Rattle.columnsheet.proofs.parts.Parts.class.Goals as goal
 
 pub overflow_add-result : goal.overflow_add-result

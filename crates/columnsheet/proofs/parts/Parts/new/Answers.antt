@@ -1,6 +1,6 @@
 use Rattle.std.proofs.Common.{refl}
 use Rattle.tuples.specs.Meaning.{count_of}
-use Rattle.columnsheet.specs.OwnTuples.{all_from_lawful, one_class, one_lawful}
+use Rattle.columnsheet.proofs.OwnTuples.{all_from_lawful, one_class, one_lawful}
 use Rattle.columnsheet.proofs.parts.Parts.new.Goals as goal
 
 pub invariant_of-result : goal.invariant_of-result

@@ -1,6 +1,6 @@
 use Rattle.std.proofs.Common.{◌<◌, get_or, arith}
 use Rattle.tuples.specs.Meaning.{count_of}
-use Rattle.columnsheet.specs.OwnTuples.{own_clusters, own_grid}
+use Rattle.columnsheet.proofs.OwnTuples.{own_clusters, own_grid}
 use Rattle.columnsheet.proofs.JoinLoops.{tuple_is, class_below, number_room, number_more}
 use Rattle.columnsheet.proofs.parts.Parts.number_of.Goals as goal
 

@@ -6,7 +6,7 @@ use Rattle.tuples.specs.Tuples.{tuples_before}
 use Rattle.tuples.proofs.Widths.{before_rises}
 use Rattle.sheets.specs.Classes.{Lawful}
 use Rattle.columnsheet.specs.Groups.{piece, held}
-use Rattle.columnsheet.specs.OwnTuples.{own_small, own_lawful, all_from_lawful}
+use Rattle.columnsheet.proofs.OwnTuples.{own_small, own_lawful, all_from_lawful}
 use Rattle.columnsheet.proofs.PartLoops.{Parting, own_renewed}
 use Rattle.columnsheet.proofs.PieceFacts.{renewed_lawful}
 use Rattle.columnsheet.proofs.parts.Parts.part.Goals as goal

@@ -13,7 +13,7 @@ whole n ys h e = length-append ys (drop n (replicate {A = ℕ} 4096 0)) ∙ omeg
 pub renumber-count-requires : goal.renumber-count-requires
 renumber-count-requires g c =
     let n = c.from.result in
-    let most : n ≤ 4096 = omega (arith, c.from.ensures, c.size-states.ensures, (g.met.R.RuleSource.finite c.args.source.now).most) in
+    let most : n ≤ 4096 = omega (arith, c.from.ensures, c.size-states.ensures.tells, c.size-states.ensures.finite.most) in
     bits_numberable (g.R.RuleSource.rules c.args.source.now).breaks c.part_breaking.new.table (omega (arith, c.part_breaking.auto.table, used n most))
     (rw c.part_breaking.auto.table c.part_breaking.ensures)
 
@@ -21,7 +21,7 @@ pub invariant_of-result : goal.invariant_of-result
 invariant_of-result g c =
     let n = c.from.result in
     let same : n ≡ c.size-states.result = c.from.ensures in
-    let most : n ≤ 4096 = omega (arith, same, c.size-states.ensures, (g.met.R.RuleSource.finite c.args.source.now).most) in
+    let most : n ≤ 4096 = omega (arith, same, c.size-states.ensures.tells, c.size-states.ensures.finite.most) in
     let bits = c.part_breaking.new.table in
     let after : List ℕ = c.renumber-count.new.table ++ drop n (replicate {A = ℕ} 4096 0) in
     let size : length bits ≡ n = c.part_breaking.auto.table ∙ used n most in
@@ -39,11 +39,11 @@ pub returns : goal.returns
 returns g c =
     let n = c.from.result in
     let same : n ≡ c.size-states.result = c.from.ensures in
-    let most : n ≤ 4096 = omega (arith, same, c.size-states.ensures, (g.met.R.RuleSource.finite c.args.source.now).most) in
+    let most : n ≤ 4096 = omega (arith, same, c.size-states.ensures.tells, c.size-states.ensures.finite.most) in
     let bits = c.part_breaking.new.table in
     let after : List ℕ = c.renumber-count.new.table ++ drop n (replicate {A = ℕ} 4096 0) in
     let size : length bits ≡ n = c.part_breaking.auto.table ∙ used n most in
     let long : length after ≡ 4096 = whole n c.renumber-count.new.table most (c.renumber-count.auto.table ∙ size) in
-    first_whole (g.R.RuleSource.rules c.args.source.now) c.size-states.result bits after c.renumber-count.result c.size-states.ensures (omega (arith, long, same, most))
+    first_whole (g.R.RuleSource.rules c.args.source.now) c.size-states.result bits after c.renumber-count.result c.size-states.ensures.tells (omega (arith, long, same, most))
     (λ s h. c.part_breaking.ensures s (omega (arith, h, used n most, same)))
     (front_renumbered bits c.renumber-count.new.table (drop n (replicate {A = ℕ} 4096 0)) c.size-states.result c.renumber-count.result (c.renumber-count.auto.table ∙ size ∙ same) (size ∙ same) c.renumber-count.ensures)

@@ -1,4 +1,4 @@
--- What a well-formed rule set means is finite, and fits its columns. The laws of the rule text's `impl`s cite these lemmas, so they stand here.
+-- What a well-formed rule set means is finite, and fits its columns.
 use Rattle.std.proofs.Common.{◌≡◌, ℕ, ◌<◌, true, ◌&&◌, ◌||◌, eqb, ltb, List, length, get_or, sym, refl, ◌∙◌, inl, inr, arith}
 use lib.ListN.{length-map}
 use Rattle.std.proofs.lemmas.List.{get_or_past}

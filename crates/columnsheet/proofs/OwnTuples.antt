@@ -1,4 +1,4 @@
--- What a column sheet's tables keep, as facts about partitions. The laws of the column sheet as a sheet cite them, so they stand here.
+-- What a column sheet's tables keep, as facts about partitions.
 use Rattle.std.proofs.Common.{◌≡◌, ℕ, ◌+◌, ◌-◌, ◌<◌, ◌≤◌, true, eqb, ltb, get_or, replicate, ◌∙◌, arith}
 use Rattle.std.proofs.lemmas.List.{get_or-replicate}
 use Rattle.std.proofs.lemmas.List.Edits.{length-between, get_or-between}
@@ -21,7 +21,7 @@ use Rattle.columnsheet.specs.Groups.{held}
 use Rattle.columnsheet.specs.Joins.{joined, lawful_test, all_lawful}
 use Rattle.columnsheet.specs.Kept.{parts_of, class_count}
 use Rattle.columnsheet.specs.declared.parts.Parts.{Parts}
-use Rattle.columnsheet.specs.JoinFacts.{joined_lawful, joined_states}
+use Rattle.columnsheet.proofs.JoinFacts.{joined_lawful, joined_states}
 
 -- ── Lawful partitions as a test ──
 
