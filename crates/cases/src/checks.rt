@@ -1,6 +1,7 @@
 //! The calls of a check, one by one and as a whole.
 ghost use Rattle.checking.specs.Settling.{SettleGives};
 
+use crate::finest::Finest;
 use crate::ladder::Ladder;
 use checking::calls::{begin, report, search, split, trace};
 use checking::fault::CheckFault;
@@ -177,6 +178,28 @@ fn a_ladder_is_climbed_to_its_top(rt: HostRuntime) {
         Ok(expected)
     );
     assert_eq!(rt; path, [0, 1, 2, 3]);
+}
+
+#[test]
+fn the_finest_sheet_needs_no_split(rt: HostRuntime) {
+    let ladder = Ladder { top: 3 };
+    let mut sheet = Finest { last: 3 };
+    let mut path = [9; 4];
+    let mut marks = [9; 4];
+    let mut scratch = [9; 8];
+    let expected = Report {
+        verdict: Verdict::Breaks,
+        splits: 0,
+        first: 4,
+        last: 4,
+        length: 4,
+    };
+    assert_eq!(rt;
+        settle_in(&ladder, &mut sheet, &mut path, &mut marks, &mut scratch),
+        Ok(expected)
+    );
+    assert_eq!(rt; path, [0, 1, 2, 3]);
+    assert_eq!(rt; sheet.split(0, &[1, 2, 0, 0]), Err(SheetFault::BadMarks));
 }
 
 #[test]

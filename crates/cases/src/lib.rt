@@ -3,6 +3,7 @@
 
 #[cfg(test)]
 mod checks;
+pub mod finest;
 pub mod ladder;
 #[cfg(test)]
 mod lists;

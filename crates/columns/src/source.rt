@@ -14,7 +14,8 @@ pub trait ColumnedSource: RuleSource {
     ghost columns: { Self → Columns };
 
     /// How many variables there are.
-    // Kept: that they fit is a clause, since a law of the trait would ask it of values that no code can hold, in which a `u8` is any number.
+    // Kept: that the columns fit the rules is a clause, since a law of the trait would ask it of values that no code can hold, in which a `u8` is any
+    // number.
     fn variables(&self) -> u16
         ensures tells { result ≡ length (columns self.now).sizes }
         ensures columned { Columned (Self.RuleSource.rules self.now) (columns self.now) };
