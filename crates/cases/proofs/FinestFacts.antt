@@ -1,10 +1,10 @@
 -- What the finest partition tells.
-use Rattle.std.proofs.Common.{◌≡◌, ℕ, ◌<◌, ◌≤◌, ltb, get_or, Some, None, ap, sym, ◌∙◌, arith}
+use Rattle.std.proofs.Common.{◌≡◌, ℕ, ◌<◌, ◌≤◌, ltb, List, get_or, Some, None, ap, sym, ◌∙◌, arith}
 use Rattle.std.proofs.lemmas.Bool.{cond-true, cond-false, lt-ltb, le-ltb}
 use Rattle.std.proofs.lemmas.List.FromFn.{length-range_with_len, get_or-range_with_len}
 use Rattle.sheets.specs.Classes.{Lawful, states, class, class_at}
 use Rattle.sheets.specs.Splits.{Splittable}
-use Rattle.cases.specs.Finests.{finest}
+use Rattle.cases.specs.FinestClasses.{finest}
 
 module _ (n : ℕ) where
   pub finest_states : states (finest n) ≡ n
@@ -26,8 +26,8 @@ module _ (n : ℕ) where
   }
 
   -- a dead state and a bad one would be the one state of their class
-  pub finest_whole : (k : ℕ) (marks : _) → Splittable (finest n) k marks → ⊥
-  finest_whole k marks may =
+  pub finest_unsplit : (k : ℕ) (marks : List ℕ) → Splittable (finest n) k marks → ⊥
+  finest_unsplit k marks may =
       let dead = may.dead in
       let bad = may.bad in
       let here : dead.0 ≡ k = sym (finest_class dead.0 (omega (arith, finest_states, dead.1))) ∙ may.inside dead.0 dead.1 (omega (arith, dead.2)) in

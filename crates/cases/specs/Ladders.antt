@@ -2,7 +2,7 @@
 use Rattle.std.specs.Prelude.{ℕ, ◌+◌, ◌&&◌, ◌==◌, nat_lt}
 use Rattle.rules.specs.Rules.{Rules}
 
--- From each rung below the top to the next, from rung 0 on; the top breaks.
+-- It starts at rung 0, steps from each rung below the top to the next, and breaks at the top.
 abbrev pub ladder : ℕ → Rules
 ladder top = record {
   size = top + 1;

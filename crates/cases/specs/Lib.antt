@@ -1,2 +1,2 @@
 pub mod Ladders
-pub mod Finests
+pub mod FinestClasses

@@ -1,13 +1,14 @@
-//! A sheet of one's own, for the calls that take any sheet.
+//! A sheet without a table, for the calls that take any sheet.
 ghost use Rattle.std.specs.Prelude.{◌≡◌, ◌+◌};
-ghost use Rattle.cases.specs.Finests.{finest};
+ghost use Rattle.cases.specs.FinestClasses.{finest};
 
 use sheets::sheet::{Sheet, SheetFault};
 
-/// Up to 256 states, each in a class of its own, so that nothing is left to split. That there are no more follows from the range of a `u8`; the
-/// type says nothing of it.
+/// Up to 256 states, each in a class of its own, so that nothing is left to split. That there are no more follows from the range of a `u8`; no
+/// invariant says so.
 #[derive(Clone, Copy)]
 pub struct Finest {
+    /// The last state.
     pub last: u8,
 }
 

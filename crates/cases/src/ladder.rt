@@ -1,12 +1,12 @@
-//! Rules of one's own, for the calls that take any source.
+//! A rule source that is neither a list nor a text, for the calls that take any source.
 ghost use Rattle.cases.specs.Ladders.{ladder};
 
 use rules::source::RuleSource;
 
-/// A climb from rung 0 to the top, where it breaks. That there are at most 4,096 rungs follows from the range of a `u8`; the type says nothing
-/// more of it.
+/// A climb from rung 0 to the top, where it breaks. That there are at most 4,096 rungs follows from the range of a `u8`; no invariant says so.
 #[derive(Clone, Copy)]
 pub struct Ladder {
+    /// The highest rung.
     pub top: u8,
 }
 

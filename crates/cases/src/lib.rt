@@ -1,4 +1,4 @@
-//! Cases as tests: what the calls answer on small inputs and at the limits.
+//! Cases as tests: what the calls answer on small inputs and at the limits. A source and a sheet of its own show what the calls ask of any.
 #![tactic(auto)]
 
 #[cfg(test)]
